@@ -1,2 +1,3 @@
 pub mod Media
 pub mod Rows
+pub mod Blocks

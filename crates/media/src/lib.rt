@@ -1,6 +1,6 @@
 // Where the register reads bytes from and writes them to: the traits of sources and media, three that implement them, and
 // writing that goes for every medium.
-
+pub mod blocks;
 pub mod bytes;
 pub mod row;
 pub mod runs;
