@@ -1,0 +1,6 @@
+mod Pads
+mod Squeezes
+mod Titled
+mod Turns
+mod Walks
+mod Words

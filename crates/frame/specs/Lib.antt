@@ -1,0 +1,5 @@
+pub mod Frames
+pub mod Headings
+pub mod Lines
+pub mod Rules
+pub mod Titles
