@@ -1,3 +1,4 @@
+mod DataWalk
 mod Pads
 mod Squeezes
 mod Titled

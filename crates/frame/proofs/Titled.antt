@@ -2,7 +2,7 @@
 use Prim.Native.Nat.{ℕ, suc, zero, _+_, _<_, _≤_}
 use Rattle.frame.specs.Frames.{hasTitle, ended-blocks, no-block, stepped, by-kind, by-stage, inside, outside, opening, opened, closed, counted, begun, isHeader, unread, Spacious, SpaciousAt}
 use Rattle.frame.specs.Headings.{captionOf, headingOf}
-use Rattle.frame.specs.Lines.{kindOf}
+use Rattle.frame.specs.Lines.{kindOf, passed}
 use Rattle.frame.specs.Rules.{Apart}
 use Rattle.frame.specs.Titles.{placeOf}
 use Rattle.frame.specs.declared.heading.Caption.{Caption}
@@ -166,9 +166,9 @@ Leaves f r = made r (Stepped f)
 not-inside : (s : Stage) → s ≡ Outside → s ≡ Inside → ⊥
 not-inside s p q = let z : _≡_ {A = ℕ} 0 1 = cc in omega arith
 
-opening-leaves : (p : Place) (f : Progress) (h : Heading) (o : Option Caption) → Orderly f → Leaves f (opening p f h o)
-opening-leaves p f h None k = tt
-opening-leaves p f h (Some c) k =
+opening-leaves : (p q : Place) (f : Progress) (h : Heading) (o : Option Caption) → Orderly f → Leaves f (opening p q f h o)
+opening-leaves p q f h None k = tt
+opening-leaves p q f h (Some c) k =
     cond-both (hasTitle (c .title) (ended-blocks f)) _ _ (Leaves f) (λ _. tt)
     (λ e. (record { places = k .places; within = k .within; apart = k .apart; new = λ _. e }, omega arith))
 
@@ -191,7 +191,7 @@ closed-leaves p f ln k s =
 outside-leaves : (p : Place) (f : Progress) (ln : Line) (s : LineKind) → Orderly f → Leaves f (outside p f ln s)
 outside-leaves p f ln Bound k = tt
 outside-leaves p f ln Comment k = (k, omega arith)
-outside-leaves p f ln Title k = opening-leaves p f (headingOf ln) (captionOf (headingOf ln .text)) k
+outside-leaves p f ln Title k = opening-leaves p (passed p (ln .len)) f (headingOf ln) (captionOf (headingOf ln .text)) k
 outside-leaves p f ln End k = tt
 outside-leaves p f ln Data k = tt
 

@@ -39,23 +39,38 @@ pub nil-lines : (cs : List ℕ) → isNil (lines cs) ≡ isNil cs
 nil-lines [] = refl
 nil-lines (c ∷ cs) = rw (lines-cons c cs) refl
 
--- what a line that was fetched says of the lines that are left
-pub record Read (rest : List ℕ) (ln : Line) : Type 0 where
-  pub fit : fits (firstLine rest) ≡ true
-  pub same : ln ≡ lineOf (firstLine rest)
-  pub parts : lines rest ≡ firstLine rest ∷ lines (drop (ln .len + 1) rest)
-
-pub read : (rest : List ℕ) (ln : Line) → Fit ln ≡ fetched rest → Read rest ln
-read [] ln e = let z : _≡_ {A = ℕ} 0 1 = cc in absurd (omega arith)
-read (c ∷ cs) ln e = elim (cases-bool (fits (firstLine (c ∷ cs)))) [
+-- the first line of a content that is fetched
+first-read : (rest : List ℕ) (ln : Line) → Fit ln ≡ fetched rest
+    → (fits (firstLine rest) ≡ true) × (ln ≡ lineOf (firstLine rest)) × (lines rest ≡ firstLine rest ∷ lines (drop (ln .len + 1) rest))
+first-read [] ln e = let z : _≡_ {A = ℕ} 0 1 = cc in absurd (omega arith)
+first-read (c ∷ cs) ln e = elim (cases-bool (fits (firstLine (c ∷ cs)))) [
   | inl b ↦
       let s : Fit ln ≡ Fit (lineOf (firstLine (c ∷ cs))) = e ∙ cond-true _ _ _ b in
       let t : ln ≡ lineOf (firstLine (c ∷ cs)) = cc in
-      record { fit = b; same = t; parts = rw t (lines-cons c cs) }
+      (b, t, rw t (lines-cons c cs))
   | inr b ↦
       let s : Fit ln ≡ Unfit = e ∙ cond-false _ _ _ b in
       let z : _≡_ {A = ℕ} 0 1 = cc in absurd (omega arith)
 ]
+
+-- what a line that was fetched at byte b says of the lines from there on
+pub record Read (cs : List ℕ) (b : ℕ) (ln : Line) : Type 0 where
+  pub text : List ℕ
+  pub fit : fits text ≡ true
+  pub same : lineOf text ≡ ln
+  pub parts : lines (drop b cs) ≡ text ∷ lines (drop (b + ln .len + 1) cs)
+
+pub read : (cs : List ℕ) (b : ℕ) (ln : Line) → Fit ln ≡ fetched (drop b cs) → Read cs b ln
+read cs b ln e =
+    let k = first-read (drop b cs) ln e in
+    let sum : b + (ln .len + 1) ≡ b + ln .len + 1 = omega arith in
+    let far : drop (ln .len + 1) (drop b cs) ≡ drop (b + ln .len + 1) cs = drop-drop (ln .len + 1) b cs ∙ ap (λ (n : ℕ). drop n cs) sum in
+    record {
+      text = firstLine (drop b cs);
+      fit = k .0;
+      same = sym (k .1);
+      parts = k .2 ∙ ap (λ (r : List ℕ). firstLine (drop b cs) ∷ lines r) far;
+    }
 
 first-within : (cs : List ℕ) → length (firstLine cs) ≤ length cs
 first-within [] = omega arith
@@ -64,7 +79,7 @@ first-within (c ∷ cs) = let h = first-within cs in elim (cases-bool (eqb c 10)
 -- a line that was fetched lies within the content
 pub read-within : (cs : List ℕ) (at : ℕ) (ln : Line) → at ≤ length cs → Fit ln ≡ fetched (drop at cs) → at + ln .len ≤ length cs
 read-within cs at ln h e =
-    let same : ln .len ≡ length (firstLine (drop at cs)) = ap (λ (m : Line). m .len) (read (drop at cs) ln e .same) in
+    let same : ln .len ≡ length (firstLine (drop at cs)) = ap (λ (m : Line). m .len) (first-read (drop at cs) ln e .1) in
     omega (arith, first-within (drop at cs), length-drop at cs)
 
 -- one turn: the recursion over the lines, in the words of the walk
@@ -73,15 +88,12 @@ pub turn : (cs : List ℕ) (p : Place) (f : Progress) (ln : Line) → Fit ln ≡
     (continued (stepped p f ln) (λ g. frame (passed p (ln .len)) g (lines (drop (p .byte + ln .len + 1) cs))))
 unfolding frame
 turn cs p f ln e =
-    let k = read (drop (p .byte) cs) ln e in
-    let sum : p .byte + (ln .len + 1) ≡ p .byte + ln .len + 1 = omega arith in
-    let far : drop (ln .len + 1) (drop (p .byte) cs) ≡ drop (p .byte + ln .len + 1) cs = drop-drop (ln .len + 1) (p .byte) cs ∙ ap (λ (n : ℕ). drop n cs) sum in
+    let k = read cs (p .byte) ln e in
     let fit = k .fit in
     let nil : isNil (lines (drop (p .byte + ln .len + 1) cs)) ≡ isNil (drop (p .byte + ln .len + 1) cs) = nil-lines _ in
     let W : Line → Result Frame Refusal = λ m. cond (isNil (drop (p .byte + ln .len + 1) cs)) (ended p f m)
     (continued (stepped p f m) (λ g. frame (passed p (m .len)) g (lines (drop (p .byte + ln .len + 1) cs)))) in
-    ap (frame p f) (k .parts ∙ ap (λ (r : List ℕ). firstLine (drop (p .byte) cs) ∷ lines r) far)
-    ∙ (rw (fit, nil) refl ∙ ap W (sym (k .same)))
+    ap (frame p f) (k .parts) ∙ (rw (fit, nil) refl ∙ ap W (k .same))
 
 pub turn-last : (cs : List ℕ) (p : Place) (f : Progress) (ln : Line) → Fit ln ≡ fetched (drop (p .byte) cs) → true ≡ isNil (drop (p .byte + ln .len + 1) cs)
     → ended p f ln ≡ frame p f (lines (drop (p .byte) cs))

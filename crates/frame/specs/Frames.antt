@@ -49,18 +49,18 @@ abbrev pub ended-blocks : Progress → List Block
 ended-blocks f = take (f .count) (f .blocks)
 
 -- a block begins: its title has to be one of the format's, and no earlier block may have it
-abbrev pub opening : Place → Progress → Heading → Option Caption → Result Progress Refusal
-opening p f h None = Err (at WrongTitle p)
-opening p f h (Some c) = cond (hasTitle (c .title) (ended-blocks f)) (Err (at TitleTwice p)) (Ok (record {
+abbrev pub opening : Place → Place → Progress → Heading → Option Caption → Result Progress Refusal
+opening p q f h None = Err (at WrongTitle p)
+opening p q f h (Some c) = cond (hasTitle (c .title) (ended-blocks f)) (Err (at TitleTwice p)) (Ok (record {
   stage = Inside;
   heading = h;
-  current = record { caption = c; start = p; «data_lines» = 0; end = 0 };
+  current = record { caption = c; start = p; body = q; «data_lines» = 0; end = 0 };
   blocks = f .blocks;
   count = f .count;
 }))
 
 abbrev pub opened : Place → Progress → Line → Result Progress Refusal
-opened p f ln = opening p f (headingOf ln) (captionOf (headingOf ln .text))
+opened p f ln = opening p (passed p (ln .len)) f (headingOf ln) (captionOf (headingOf ln .text))
 
 -- a block ends, with the words of its title
 abbrev pub closed : Place → Progress → Line → Result Progress Refusal
@@ -71,6 +71,7 @@ closed p f ln = cond (sameBytes (headingOf ln .text) (f .heading .text)) (Ok (re
   blocks = set (f .blocks) (f .count) (record {
     caption = f .current .caption;
     start = f .current .start;
+    body = f .current .body;
     «data_lines» = f .current .«data_lines»;
     end = p .line;
   });
@@ -85,6 +86,7 @@ counted f = record {
   current = record {
     caption = f .current .caption;
     start = f .current .start;
+    body = f .current .body;
     «data_lines» = f .current .«data_lines» + 1;
     end = f .current .end;
   };
@@ -166,7 +168,7 @@ frame p f (l ∷ ls) = cond (fits l)
     (Err (at UnfitLine p))
 
 abbrev pub no-block : Block
-no-block = record { caption = record { title = FileReference; form = None }; start = record { byte = 0; line = 0 }; «data_lines» = 0; end = 0 }
+no-block = record { caption = record { title = FileReference; form = None }; start = record { byte = 0; line = 0 }; body = record { byte = 0; line = 0 }; «data_lines» = 0; end = 0 }
 
 -- before the first line
 abbrev pub unread : Progress

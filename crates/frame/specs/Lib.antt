@@ -1,3 +1,4 @@
+pub mod DataLines
 pub mod Frames
 pub mod Headings
 pub mod Lines

@@ -1,4 +1,5 @@
 // The frame of a SINEX file: its lines, its blocks, and the data lines of each block.
+pub mod data;
 pub mod heading;
 pub mod line;
 pub mod place;

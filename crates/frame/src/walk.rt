@@ -23,11 +23,13 @@ use refusals::Refusal;
 // The most bytes that a source may have.
 pub const LONGEST: usize = 100_000_000;
 
-// A block: what its title line names and where that stands, the number of its data lines, and the line of its end.
+// A block: what its title line names, where that line and the one after it begin, the number of its data lines, and the
+// line of its end.
 #[derive(Clone, Copy)]
 pub struct Block {
     pub caption: Caption,
     pub start: Place,
+    pub body: Place,
     pub data_lines: u32,
     pub end: u32,
 }
@@ -63,6 +65,7 @@ const NO_BLOCK: Block = Block {
         form: None,
     },
     start: Place { byte: 0, line: 0 },
+    body: Place { byte: 0, line: 0 },
     data_lines: 0,
     end: 0,
 };
@@ -109,7 +112,7 @@ fn has_title(blocks: &[Block], title: Title) -> bool
 
 // The title line of a block.
 fn open_block(progress: &mut Progress, place: Place, line: &Line) -> Result<(), Refusal>
-    requires { ⌜ now progress .count ≤ 26 ⌝ }
+    requires { ⌜ now progress .count ≤ 26 ⌝ ∗ ⌜ place .byte + now line .len ≤ 100000000 ⌝ ∗ ⌜ place .line ≤ place .byte + 1 ⌝ }
     ensures progress { λ r. ⌜ outcome r (now (progress .exit)) ≡ opened place (now (progress .entry)) (now (line .entry)) ⌝ }
 {
     let heading = line.heading();
@@ -121,9 +124,12 @@ fn open_block(progress: &mut Progress, place: Place, line: &Line) -> Result<(), 
     }
     progress.stage = Stage::Inside;
     progress.heading = heading;
+    let mut body = place;
+    pass(&mut body, line.len);
     progress.current = Block {
         caption,
         start: place,
+        body,
         data_lines: 0,
         end: 0,
     };
@@ -156,7 +162,8 @@ fn close_block(progress: &mut Progress, place: Place, line: &Line) -> Result<(),
 
 // A line that is not the last.
 fn step(progress: &mut Progress, place: Place, line: &Line) -> Result<(), Refusal>
-    requires { ⌜ now progress .current .«data_lines» ≤ 100000000 ⌝ ∗ ⌜ Spacious (now progress) ⌝ }
+    requires room { ⌜ now progress .current .«data_lines» ≤ 100000000 ⌝ ∗ ⌜ Spacious (now progress) ⌝ }
+    requires place { ⌜ place .byte + now line .len ≤ 100000000 ⌝ ∗ ⌜ place .line ≤ place .byte + 1 ⌝ }
     ensures progress { λ r. ⌜ outcome r (now (progress .exit)) ≡ stepped place (now (progress .entry)) (now (line .entry)) ⌝ }
 {
     let Some(kind) = line.kind() else {

@@ -45,7 +45,13 @@ end-requires g c κs = c .loop-place .inv .orderly .within
 pub step-requires : need.step-requires
 step-requires g c κs =
     let k = c .loop-place .inv in
-    (omega (arith, k .count, k .within, k .small), orderly-spacious _ (k .orderly))
+    let h = read-within _ _ _ (k .within) (c .in-Fit .ensures tt) in
+    let b = ap (λ (q : Place). q .byte) (c .is-last .ensures .back) in
+    let l = ap (λ (q : Place). q .line) (c .is-last .ensures .back) in
+    record {
+      room = (omega (arith, k .count, k .within, k .small), orderly-spacious _ (k .orderly));
+      place = (omega (arith, k .small, b), omega (arith, k .number, b, l));
+    }
 
 pub returns-in-Break-step : need.returns-in-Break-step
 returns-in-Break-step g c =
