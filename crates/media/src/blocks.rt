@@ -1,7 +1,7 @@
 // Blocks of 512 bytes: two for a count, the high byte first, and 510 for payload. The counted bytes of the leading whole blocks
 // are the content, up to and with the first block that is not full.
 ghost use Prim.Native.Nat.{ℕ, _+_, _-_, _*_, _/_, _%_, _^_, _<_, _≤_, min};
-ghost use Rattle.media.specs.Blocks.{count, zeros, whole, held, blocks, blockContent, blockRoom};
+ghost use Rattle.media.specs.Blocks.{count, zeros, whole, held, blocks, blockContent, blockRoom, LayoutReadsBack};
 ghost use Rattle.std.specs.Results.{isOk};
 ghost use denote.Ref.{now, name};
 ghost use lib.Dec.{ltb};
@@ -172,6 +172,13 @@ fn clear(s: &mut Store<'_>)
     if s.raw.len() >= BLOCK {
         write_count(s.raw, 0);
     }
+}
+
+// Any bytes that fit are read back from the blocks that they are laid out in.
+pub fn layout_law() -> u8
+    ensures { λ _. ⌜ LayoutReadsBack ⌝ }
+{
+    0
 }
 
 impl<'a> Blocks<'a> {
