@@ -25,7 +25,7 @@ count-block xs = div-add-mod (length xs) 256
 block-holds : (xs after : List ℕ) → 1 ≤ length xs → length xs ≤ 510
     → heldBy (block xs) after ≡ xs ++ cond (eqb (length xs) 510) after []
 block-holds xs after one top =
-    let fill = replicate (510 - length xs) 0 in
+    let fill : List ℕ = replicate (510 - length xs) 0 in
     let two : 2 + length xs ≡ suc (suc (length xs)) = omega arith in
     let z : zeros (drop (2 + length xs) (block xs)) ≡ true =
     ap (λ i. zeros (drop i (block xs))) two ∙ ap zeros (drop-at xs fill (length xs) refl) ∙ zeros-replicate (510 - length xs) in

@@ -193,6 +193,22 @@ impl<'a> Blocks<'a> {
         let store = Store { raw, len };
         Blocks { store }
     }
+
+    // Hands the raw bytes back: they hold what the blocks held.
+    pub fn into_raw(self) -> &'a mut [u8]
+        ensures { λ r. ⌜ now r ≡ now (self .entry .store .raw) ⌝ }
+    {
+        let raw = self.store.raw;
+        raw
+    }
+
+    // Closes the blocks and opens their raw bytes again: all that they held is found there.
+    pub fn reopened(self) -> Blocks<'a>
+        ensures content { λ r. ⌜ blockContent (now (r .store .raw)) ≡ blockContent (now (self .entry .store .raw)) ⌝ }
+        ensures room { λ r. ⌜ blockRoom (now (r .store .raw)) ≡ blockRoom (now (self .entry .store .raw)) ⌝ }
+    {
+        Blocks::new(self.into_raw())
+    }
 }
 
 pub impl<'a> Source for Blocks<'a> as BlocksSource {
@@ -203,7 +219,7 @@ pub impl<'a> Source for Blocks<'a> as BlocksSource {
     }
 
     fn byte(&self, place: usize) -> Option<u8> {
-        if place < self.store.len {
+        if place < self.length() {
             Some(byte_of(self.store.raw, place))
         } else {
             None

@@ -1,10 +1,9 @@
 use mathlib.Core.Path.{_≡_}
 use mathlib.Core.List.{[], _∷_, _++_, append-assoc}
 use native.Mathlib.Omega.{arith}
-use borrow.Author.Tests.{le-true}
-use Rattle.media.proofs.runs.append_line.Needs as need
+use Rattle.media.proofs.runs.put_line.Needs as need
 
 pub returns : need.returns
 returns g c =
     let s = append-assoc (g .M·Source .content (c .args .m .now)) (c .args .text .now) (10 ∷ []) in
-    record { granted = le-true _ _ (omega arith); after = cc; len = omega arith; kept = cc }
+    record { after = cc; len = omega arith; kept = cc }
