@@ -1,15 +1,15 @@
 use mathlib.Core.Path.{_≡_, refl, sym, _∙_, ap}
-use mathlib.Core.List.{List, [], _∷_, _++_, append-nil}
-use mathlib.Core.Bool.{Bool, true, false, cond, _&&_}
-use mathlib.Core.Logic.{_≢_, _⊎_, inl, inr, ⊎-elim}
-use Prim.Native.Nat.{ℕ, zero, suc, _+_, _-_, _*_, _/_, _%_, _≤_, _<_, min}
+use mathlib.Core.List.{List, [], _++_, append-nil}
+use mathlib.Core.Bool.{true, cond}
+use mathlib.Core.Logic.{⊎-elim}
+use Prim.Native.Nat.{ℕ, zero, suc, _+_, _-_, _*_, _≤_, _<_}
 use native.Mathlib.Omega.{arith}
 use native.Mathlib.Nat.{div-add-mod}
-use lib.Dec.{eqb, leb}
-use lib.ListN.{length, getD, take, drop, replicate, length-take, length-drop, length-append, length-replicate}
+use lib.Dec.{eqb}
+use lib.ListN.{length, take, drop, replicate, length-take, length-drop, length-append, length-replicate}
 use Rattle.std.proofs.shelf.Tests.{le-leb, eq-eqb, ne-eqb, cases-lt}
 use Rattle.std.proofs.shelf.Lists.{take-at, drop-at, take-all, drop-all, take-append-drop, nil-from-length}
-use Rattle.media.specs.Blocks.{count, zeros, whole, heldBy, held, blocks, blockContent, block, laidOut}
+use Rattle.media.specs.Blocks.{count, zeros, heldBy, held, blocks, blockContent, block, laidOut}
 
 zeros-replicate : (n : ℕ) → zeros (replicate n 0) ≡ true
 zeros-replicate zero = refl

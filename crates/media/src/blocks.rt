@@ -1,13 +1,13 @@
 // Blocks of 512 bytes: two for a count, the high byte first, and 510 for payload. The counted bytes of the leading whole blocks
 // are the content, up to and with the first block that is not full.
-ghost use Prim.Native.Nat.{ℕ, _+_, _-_, _*_, _/_, _%_, _^_, _<_, _≤_, min};
+ghost use Prim.Native.Nat.{_+_, _-_, _*_, _/_, _%_, _<_, _≤_, min};
 ghost use Rattle.media.specs.Blocks.{count, zeros, whole, held, blocks, blockContent, blockRoom, LayoutReadsBack};
 ghost use Rattle.std.specs.Results.{isOk};
 ghost use denote.Ref.{now, name};
 ghost use lib.Dec.{ltb};
 ghost use lib.ListN.{length, getD, set, take, drop};
 ghost use mathlib.Core.Bool.{true, cond};
-ghost use mathlib.Core.List.{List, [], _∷_, _++_};
+ghost use mathlib.Core.List.{[], _∷_, _++_};
 ghost use mathlib.Core.Path.{_≡_};
 use crate::Full;
 use crate::Medium;

@@ -1,9 +1,9 @@
 // A row of bytes with a fill count: the first bytes of the row, as many as the count says, are its content.
-ghost use Prim.Native.Nat.{ℕ, _+_, _-_, _*_, _^_, _<_, _≤_, min};
+ghost use Prim.Native.Nat.{_+_, _<_, min};
 ghost use Rattle.media.specs.Rows.{rowRoom, rowContent};
 ghost use denote.Ref.{now, name};
-ghost use lib.ListN.{length, getD, set, take, drop};
-ghost use mathlib.Core.List.{List, [], _∷_, _++_};
+ghost use lib.ListN.{length, take};
+ghost use mathlib.Core.List.{[], _∷_, _++_};
 ghost use mathlib.Core.Path.{_≡_};
 use crate::Full;
 use crate::Medium;

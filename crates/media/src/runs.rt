@@ -1,10 +1,10 @@
 // Writing runs of bytes to any medium. A run goes in whole or not at all: the space is looked at before the first byte is written.
-ghost use Prim.Native.Nat.{ℕ, _+_, _-_, _<_, _≤_};
+ghost use Prim.Native.Nat.{_+_, _-_, _<_, _≤_};
 ghost use Rattle.std.specs.Results.{isOk};
 ghost use lib.Dec.{leb};
-ghost use lib.ListN.{length, getD, take};
+ghost use lib.ListN.{length};
 ghost use mathlib.Core.Bool.{cond};
-ghost use mathlib.Core.List.{List, [], _∷_, _++_};
+ghost use mathlib.Core.List.{[], _∷_, _++_};
 ghost use mathlib.Core.Path.{_≡_};
 use crate::Full;
 use crate::Medium;
