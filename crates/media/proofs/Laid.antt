@@ -1,5 +1,5 @@
 use mathlib.Core.Path.{_≡_, refl, sym, _∙_, ap}
-use mathlib.Core.List.{List, [], _++_, append-nil}
+use mathlib.Core.List.{List, [], _++_, append-nil, append-assoc}
 use mathlib.Core.Bool.{true, cond}
 use mathlib.Core.Logic.{⊎-elim}
 use Prim.Native.Nat.{ℕ, zero, suc, _+_, _-_, _*_, _≤_, _<_}
@@ -32,22 +32,24 @@ block-holds xs after one top =
     let p : take (length xs) (drop 2 (block xs)) ≡ xs = take-at xs fill (length xs) refl in
     rw (count-block xs, le-leb 1 (length xs) one, le-leb (length xs) 510 top, z, p)
 
+-- fewer bytes than a block's payload: whatever the blocks behind hold, it is not looked at
+short-block : (xs after : List ℕ) → length xs < 510 → heldBy (block (take 510 xs)) after ≡ xs
+short-block xs after few =
+    ⊎-elim
+    (λ (none : length xs < 1).
+    let n : xs ≡ [] = nil-from-length xs (omega arith) in
+    ap (λ l. heldBy (block (take 510 l)) after) n ∙ sym n)
+    (λ (some : 1 ≤ length xs).
+    let ne : length xs ≡ 510 → ⊥ = omega arith in
+    ap (λ l. heldBy (block l) after) (take-all 510 xs (omega arith)) ∙ block-holds xs after some (omega arith)
+    ∙ ap (λ b. xs ++ cond b after []) (ne-eqb (length xs) 510 ne) ∙ append-nil xs)
+    (cases-lt (length xs) 1)
+
 -- the bytes of the first block, and the others behind it
 first-block : (xs : List ℕ) → heldBy (block (take 510 xs)) (drop 510 xs) ≡ xs
 first-block xs =
     ⊎-elim
-    (λ (few : length xs < 510).
-    let t : take 510 xs ≡ xs = take-all 510 xs (omega arith) in
-    let d : drop 510 xs ≡ [] = drop-all 510 xs (omega arith) in
-    ⊎-elim
-    (λ (none : length xs < 1).
-    let n : xs ≡ [] = nil-from-length xs (omega arith) in
-    ap (λ l. heldBy (block (take 510 l)) (drop 510 l)) n ∙ sym n)
-    (λ (some : 1 ≤ length xs).
-    let ne : length xs ≡ 510 → ⊥ = omega arith in
-    ap (λ l. heldBy (block l) (drop 510 xs)) t ∙ block-holds xs (drop 510 xs) some (omega arith)
-    ∙ ap (λ b. xs ++ cond b (drop 510 xs) []) (ne-eqb (length xs) 510 ne) ∙ append-nil xs)
-    (cases-lt (length xs) 1))
+    (λ (few : length xs < 510). short-block xs (drop 510 xs) few)
     (λ (many : 510 ≤ length xs).
     let l : length (take 510 xs) ≡ 510 = simp length-take (omega arith) in
     block-holds (take 510 xs) (drop 510 xs) (omega arith) (omega arith)
@@ -63,19 +65,43 @@ length-laid (suc n) xs =
     length-append (block (take 510 xs)) (laidOut n (drop 510 xs))
     ∙ omega (arith, length-first xs, length-laid n (drop 510 xs))
 
+-- n + k blocks, of which the first holds the bytes of a block and the others are r
+held-first : (n : ℕ) (xs r : List ℕ) → held (suc n) (block (take 510 xs) ++ r) ≡ heldBy (block (take 510 xs)) (held n r)
+held-first n xs r =
+    let b = block (take 510 xs) in
+    let l = length-first xs in
+    ap (λ x. heldBy x (held n (drop 512 (b ++ r)))) (take-at b r 512 l) ∙ ap (λ x. heldBy b (held n x)) (drop-at b r 512 l)
+
 held-laid : (n : ℕ) (xs : List ℕ) → length xs ≤ 510 * n → held n (laidOut n xs) ≡ xs
 held-laid zero xs h = sym (nil-from-length xs (omega arith))
 held-laid (suc n) xs h =
-    let b = block (take 510 xs) in
-    let r = laidOut n (drop 510 xs) in
-    let l = length-first xs in
     let hr : length (drop 510 xs) ≤ 510 * n = simp length-drop (omega arith) in
-    ap (λ x. heldBy x (held n (drop 512 (b ++ r)))) (take-at b r 512 l)
-    ∙ ap (λ x. heldBy b (held n x)) (drop-at b r 512 l)
-    ∙ ap (λ x. heldBy b x) (held-laid n (drop 510 xs) hr)
+    held-first n xs (laidOut n (drop 510 xs))
+    ∙ ap (λ x. heldBy (block (take 510 xs)) x) (held-laid n (drop 510 xs) hr)
     ∙ first-block xs
 
-pub layout-reads-back : (n : ℕ) (xs : List ℕ) → n ≤ 196078 → length xs ≤ 510 * n → blockContent (laidOut n xs) ≡ xs
-layout-reads-back n xs most h =
+held-behind : (n k : ℕ) (xs ys : List ℕ) → length xs < 510 * n → held (n + k) (laidOut n xs ++ ys) ≡ xs
+held-behind zero k xs ys h = absurd (omega arith)
+held-behind (suc n) k xs ys h =
+    let b = block (take 510 xs) in
+    let r = laidOut n (drop 510 xs) in
+    let m : suc n + k ≡ suc (n + k) = omega arith in
+    ap (λ i. held i ((b ++ r) ++ ys)) m ∙ ap (held (suc (n + k))) (append-assoc b r ys) ∙ held-first (n + k) xs (r ++ ys)
+    ∙ ⊎-elim
+    (λ (few : length xs < 510). short-block xs (held (n + k) (r ++ ys)) few)
+    (λ (many : 510 ≤ length xs).
+    let hr : length (drop 510 xs) < 510 * n = simp length-drop (omega arith) in
+    ap (λ x. heldBy b x) (held-behind n k (drop 510 xs) ys hr) ∙ first-block xs)
+    (cases-lt (length xs) 510)
+
+pub reads-back : (n : ℕ) (xs : List ℕ) → n ≤ 196078 → length xs ≤ 510 * n → blockContent (laidOut n xs) ≡ xs
+reads-back n xs most h =
     let k : blocks (laidOut n xs) ≡ n = omega (arith, length-laid n xs) in
     ap (λ i. held i (laidOut n xs)) k ∙ held-laid n xs h
+
+pub rest-unread : (n : ℕ) (xs ys : List ℕ) → n ≤ 196078 → length xs < 510 * n → blockContent (laidOut n xs ++ ys) ≡ xs
+rest-unread n xs ys most h =
+    let l : length (laidOut n xs ++ ys) ≡ 512 * n + length ys =
+    length-append (laidOut n xs) ys ∙ ap (λ i. i + length ys) (length-laid n xs) in
+    let k : blocks (laidOut n xs ++ ys) ≡ n + (blocks (laidOut n xs ++ ys) - n) = omega arith in
+    ap (λ i. held i (laidOut n xs ++ ys)) k ∙ held-behind n (blocks (laidOut n xs ++ ys) - n) xs ys h

@@ -1,7 +1,7 @@
 // Blocks of 512 bytes: two for a count, the high byte first, and 510 for payload. The counted bytes of the leading whole blocks
 // are the content, up to and with the first block that is not full.
 ghost use Prim.Native.Nat.{_+_, _-_, _*_, _/_, _%_, _<_, _≤_, min};
-ghost use Rattle.media.specs.Blocks.{count, zeros, whole, held, blocks, blockContent, blockRoom, LayoutReadsBack};
+ghost use Rattle.media.specs.Blocks.{count, zeros, whole, held, blocks, blockContent, blockRoom, ReadsBack, RestUnread};
 ghost use Rattle.std.specs.Results.{isOk};
 ghost use denote.Ref.{now, name};
 ghost use lib.Dec.{ltb};
@@ -174,9 +174,10 @@ fn clear(s: &mut Store<'_>)
     }
 }
 
-// Any bytes that fit are read back from the blocks that they are laid out in.
+// Any bytes that fit are read back from the blocks that they are laid out in, whatever stands behind the last of them that is not full.
 pub fn layout_law() -> u8
-    ensures { λ _. ⌜ LayoutReadsBack ⌝ }
+    ensures back { λ _. ⌜ ReadsBack ⌝ }
+    ensures rest { λ _. ⌜ RestUnread ⌝ }
 {
     0
 }
