@@ -65,8 +65,8 @@ mod tests {
     fn blocks_are_filled_and_opened_again() -> Result<(), Fail> {
         let mut raw = [0u8; 1100];
         let mut blocks = Blocks::new(&mut raw);
-        for i in 0..1020 {
-            check(blocks.append((i / 4) as u8).is_ok())?;
+        for i in 0u8..255 {
+            check(append_run(&mut blocks, &[i; 4]).is_ok())?;
         }
         check(blocks.append(1).is_err())?;
         let opened = blocks.reopened();
