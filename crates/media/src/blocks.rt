@@ -183,7 +183,7 @@ pub fn layout_law() -> u8
 }
 
 impl<'a> Blocks<'a> {
-    // Takes over what raw holds, whatever its bytes are. This looks at every block once; no other call does.
+    // Takes over what raw holds, whatever its bytes are. Making them goes through the blocks once; reading, append and empty never do.
     pub fn new(raw: &'a mut [u8]) -> Blocks<'a>
         ensures content { λ r. ⌜ blockContent (now (r .store .raw)) ≡ blockContent (now (raw .entry)) ⌝ }
         ensures room { λ r. ⌜ blockRoom (now (r .store .raw)) ≡ blockRoom (now (raw .entry)) ⌝ }
