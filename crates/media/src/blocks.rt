@@ -1,13 +1,13 @@
 // Blocks of 512 bytes: two for a count, the high byte first, and 510 for payload. The counted bytes of the leading whole blocks
 // are the content, up to and with the first block that is not full.
-ghost use Prim.Native.Nat.{ℕ, _+_, _-_, _*_, _/_, _%_, _^_, _<_, _≤_, min};
-ghost use Rattle.media.specs.Blocks.{count, zeros, whole, held, blocks, blockContent, blockRoom};
+ghost use Prim.Native.Nat.{_+_, _-_, _*_, _/_, _%_, _<_, _≤_, min};
+ghost use Rattle.media.specs.Blocks.{count, zeros, whole, held, blocks, blockContent, blockRoom, ReadsBack, RestUnread};
 ghost use Rattle.std.specs.Results.{isOk};
 ghost use denote.Ref.{now, name};
 ghost use lib.Dec.{ltb};
 ghost use lib.ListN.{length, getD, set, take, drop};
 ghost use mathlib.Core.Bool.{true, cond};
-ghost use mathlib.Core.List.{List, [], _∷_, _++_};
+ghost use mathlib.Core.List.{[], _∷_, _++_};
 ghost use mathlib.Core.Path.{_≡_};
 use crate::Full;
 use crate::Medium;
@@ -174,8 +174,16 @@ fn clear(s: &mut Store<'_>)
     }
 }
 
+// Any bytes that fit are read back from the blocks that they are laid out in, whatever stands behind the last of them that is not full.
+pub fn layout_law() -> u8
+    ensures back { λ _. ⌜ ReadsBack ⌝ }
+    ensures rest { λ _. ⌜ RestUnread ⌝ }
+{
+    0
+}
+
 impl<'a> Blocks<'a> {
-    // Takes over what raw holds, whatever its bytes are. This looks at every block once; no other call does.
+    // Takes over what raw holds, whatever its bytes are. Making them goes through the blocks once; reading, append and empty never do.
     pub fn new(raw: &'a mut [u8]) -> Blocks<'a>
         ensures content { λ r. ⌜ blockContent (now (r .store .raw)) ≡ blockContent (now (raw .entry)) ⌝ }
         ensures room { λ r. ⌜ blockRoom (now (r .store .raw)) ≡ blockRoom (now (raw .entry)) ⌝ }
@@ -185,6 +193,22 @@ impl<'a> Blocks<'a> {
         let len = measured(raw);
         let store = Store { raw, len };
         Blocks { store }
+    }
+
+    // Hands the raw bytes back: they hold what the blocks held.
+    pub fn into_raw(self) -> &'a mut [u8]
+        ensures { λ r. ⌜ now r ≡ now (self .entry .store .raw) ⌝ }
+    {
+        let raw = self.store.raw;
+        raw
+    }
+
+    // Closes the blocks and opens their raw bytes again: all that they held is found there.
+    pub fn reopened(self) -> Blocks<'a>
+        ensures content { λ r. ⌜ blockContent (now (r .store .raw)) ≡ blockContent (now (self .entry .store .raw)) ⌝ }
+        ensures room { λ r. ⌜ blockRoom (now (r .store .raw)) ≡ blockRoom (now (self .entry .store .raw)) ⌝ }
+    {
+        Blocks::new(self.into_raw())
     }
 }
 
@@ -196,7 +220,7 @@ pub impl<'a> Source for Blocks<'a> as BlocksSource {
     }
 
     fn byte(&self, place: usize) -> Option<u8> {
-        if place < self.store.len {
+        if place < self.length() {
             Some(byte_of(self.store.raw, place))
         } else {
             None

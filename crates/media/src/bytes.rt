@@ -1,5 +1,6 @@
 // Bytes that are only read.
-ghost use denote.Ref.{now, name};
+ghost use Rattle.media.specs.Media.{byteAt};
+ghost use denote.Ref.{now};
 ghost use mathlib.Core.Path.{_≡_};
 use crate::Source;
 
@@ -16,6 +17,17 @@ impl<'a> Bytes<'a> {
     }
 }
 
+// The byte at a place, or none at or past the end.
+pub(crate) fn byte_of(bytes: &[u8], place: usize) -> Option<u8>
+    ensures { λ r. ⌜ r ≡ byteAt (now (bytes .entry)) place ⌝ }
+{
+    if place < bytes.len() {
+        Some(bytes[place])
+    } else {
+        None
+    }
+}
+
 pub impl<'a> Source for Bytes<'a> as BytesSource {
     ghost content = { λ s. now (s .bytes) };
 
@@ -24,10 +36,6 @@ pub impl<'a> Source for Bytes<'a> as BytesSource {
     }
 
     fn byte(&self, place: usize) -> Option<u8> {
-        if place < self.bytes.len() {
-            Some(self.bytes[place])
-        } else {
-            None
-        }
+        byte_of(self.bytes, place)
     }
 }

@@ -1,13 +1,14 @@
 // A row of bytes with a fill count: the first bytes of the row, as many as the count says, are its content.
-ghost use Prim.Native.Nat.{ℕ, _+_, _-_, _*_, _^_, _<_, _≤_, min};
+ghost use Prim.Native.Nat.{_+_, _<_, min};
 ghost use Rattle.media.specs.Rows.{rowRoom, rowContent};
 ghost use denote.Ref.{now, name};
-ghost use lib.ListN.{length, getD, set, take, drop};
-ghost use mathlib.Core.List.{List, [], _∷_, _++_};
+ghost use lib.ListN.{length, take};
+ghost use mathlib.Core.List.{[], _∷_, _++_};
 ghost use mathlib.Core.Path.{_≡_};
 use crate::Full;
 use crate::Medium;
 use crate::Source;
+use crate::bytes::byte_of;
 
 // A row has no more bytes than these, however long it is.
 const MOST_BYTES: usize = 100_000_000;
@@ -40,19 +41,27 @@ impl<'a> Row<'a> {
     }
 }
 
+// Writes b behind the first n bytes, where the row has room for it.
+fn put_behind(bytes: &mut [u8], n: usize, b: u8)
+    requires { ⌜ n < rowRoom (now bytes) ⌝ }
+    ensures after { λ _. ⌜ rowContent (now (bytes .exit)) (n + 1) ≡ take n (now (bytes .entry)) ++ b ∷ [] ⌝ }
+    ensures kept { λ _. ⌜ rowRoom (now (bytes .exit)) ≡ rowRoom (now (bytes .entry)) ⌝ }
+{
+    bytes[n] = b;
+}
+
 pub impl<'a> Source for Row<'a> as RowSource {
     ghost content = { λ s. rowContent (now (s .bytes)) (s .fill) };
 
-    fn length(&self) -> usize {
+    fn length(&self) -> usize
+        ensures filled { λ r. ⌜ r ≡ min (now (self .entry) .fill) (rowRoom (now (now (self .entry) .bytes))) ⌝ }
+        ensures value { λ r. ⌜ r ≡ length (rowContent (now (now (self .entry) .bytes)) (now (self .entry) .fill)) ⌝ }
+    {
         self.fill.min(self.capacity())
     }
 
     fn byte(&self, place: usize) -> Option<u8> {
-        if place < self.length() {
-            Some(self.bytes[place])
-        } else {
-            None
-        }
+        byte_of(&self.bytes[..self.length()], place)
     }
 }
 
@@ -66,7 +75,7 @@ pub impl<'a> Medium for Row<'a> as RowMedium {
     fn append(&mut self, b: u8) -> Result<(), Full> {
         let n = self.length();
         if n < self.capacity() {
-            self.bytes[n] = b;
+            put_behind(self.bytes, n, b);
             self.fill = n + 1;
             Ok(())
         } else {

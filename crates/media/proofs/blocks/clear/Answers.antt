@@ -1,9 +1,8 @@
 use mathlib.Core.Path.{_≡_, refl, _∙_, ap}
-use Prim.Native.Nat.{_≤_}
 use native.Mathlib.Omega.{arith}
 use lib.ListN.{length, take, length-set}
-use Rattle.media.specs.Blocks.{blocks, blockRoom, held, count}
-use Rattle.media.proofs.Held.{held-none, clear-first}
+use Rattle.media.specs.Blocks.{blocks, count}
+use Rattle.media.proofs.Stamped.{held-none, clear-first}
 use Rattle.media.proofs.blocks.clear.Needs as need
 
 pub returns-then-s-ge-BLOCK : need.returns-then-s-ge-BLOCK

@@ -1,10 +1,9 @@
-use mathlib.Core.Path.{_≡_, refl, sym, _∙_, ap}
-use Prim.Native.Nat.{ℕ, suc, _<_, _≤_, _*_, _+_}
+use mathlib.Core.Path.{_≡_, _∙_, ap}
 use native.Mathlib.Omega.{arith}
-use lib.ListN.{length, take, drop, set, length-set, length-drop}
-use lib.Seq.{take-set-le, drop-set-add, getD-set-same, getD-set-other}
-use Rattle.media.specs.Blocks.{held, count}
-use Rattle.media.proofs.Held.{stamped, stamped-take, stamped-holds, held-none, clear-next}
+use lib.ListN.{length, take, drop, set, length-set}
+use lib.Seq.{take-set-le}
+use Rattle.media.specs.Blocks.{held}
+use Rattle.media.proofs.Stamped.{stamped, stamped-take, stamped-holds, held-none, clear-next}
 use Rattle.media.proofs.blocks.stamp.Needs as need
 
 pub returns-then-m-gt1 : need.returns-then-m-gt1
