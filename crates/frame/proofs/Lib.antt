@@ -1,4 +1,5 @@
 mod DataWalk
+mod Framing
 mod Pads
 mod Squeezes
 mod Titled

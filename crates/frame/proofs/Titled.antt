@@ -58,6 +58,15 @@ pub apart-push : (bs : List Block) (b : Block) → Apart bs → hasTitle (b .cap
 apart-push [] b a h = (refl, tt)
 apart-push (c ∷ cs) b a h = let p = or-parts _ _ h in (has-push (c .caption .title) cs b (a .0) (eqb-sym _ _ (p .0)), apart-push cs b (a .1) (p .1))
 
+-- the first of some blocks after others is new among those
+pub has-apart : (bs : List Block) (b : Block) (cs : List Block) → Apart (bs ++ b ∷ cs) → hasTitle (b .caption .title) bs ≡ false
+has-apart [] b cs a = refl
+has-apart (x ∷ xs) b cs a = or-from _ _ (eqb-sym _ _ (there xs (a .0))) (has-apart xs b cs (a .1))
+  where
+    there : (ys : List Block) → hasTitle (x .caption .title) (ys ++ b ∷ cs) ≡ false → eqb (placeOf (b .caption .title)) (placeOf (x .caption .title)) ≡ false
+    there [] h = or-parts _ _ h .0
+    there (y ∷ ys) h = there ys (or-parts _ _ h .1)
+
 pub place-below : (k : BlockTitle) → placeOf k < 26
 place-below FileReference = lit< tt
 place-below FileComment = lit< tt

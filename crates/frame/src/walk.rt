@@ -1,6 +1,8 @@
 // The frame of a file: header, blocks and footer, line by line.
 ghost use Prim.Native.Nat.{ℕ, _+_, _<_, _≤_};
 ghost use Rattle.frame.specs.Frames.{Spacious, allTaken, at, closed, ended, framed, hasTitle, isHeader, opened, outcome, stepped, unread};
+ghost use Rattle.frame.specs.Rules.{Exactly, Right};
+ghost use Rattle.std.specs.declared.result.Result.the-variants.{Ok};
 ghost use Rattle.std.specs.shelf.Text.{sameBytes};
 ghost use lib.ListN.{take};
 ghost use mathlib.Core.Path.{_≡_};
@@ -244,8 +246,8 @@ fn end(progress: &Progress, place: Place, line: &Line) -> Result<Frame, Refusal>
     }
 }
 
-// The blocks of a source in its order, or the first fault of its frame.
-pub fn check<S: Source>(source: &S) -> Result<Frame, Refusal>
+// The pass over the lines.
+fn walk_lines<S: Source>(source: &S) -> Result<Frame, Refusal>
     ensures { λ r. ⌜ r ≡ framed (content (now (source .entry))) ⌝ }
 {
     if source.length() > LONGEST {
@@ -269,4 +271,13 @@ pub fn check<S: Source>(source: &S) -> Result<Frame, Refusal>
             }
         }
     }
+}
+
+// The blocks of a source in its order, or the first fault of its frame: line by line the checks of a line, and at the footer
+// that each block is there that the register takes up.
+pub fn check<S: Source>(source: &S) -> Result<Frame, Refusal>
+    ensures frame { λ r. ⌜ r ≡ framed (content (now (source .entry))) ⌝ }
+    ensures right { λ r. ⌜ ((f : Frame) → Exactly (r ≡ Ok f) (Right (content (now (source .entry))) f)) ⌝ }
+{
+    walk_lines(source)
 }
