@@ -1,5 +1,5 @@
 // The lines of a source: byte 10 ends a line, and the last may lack it.
-ghost use Rattle.frame.specs.Lines.{allPrintable, fetched, kindOf};
+ghost use Rattle.frame.specs.Lines.{allPrintable, fetched, kindBy, kindOf};
 ghost use lib.ListN.{drop};
 ghost use mathlib.Core.Path.{_≡_};
 use media::Source;
@@ -72,6 +72,20 @@ pub fn fetch<S: Source>(source: &S, at: usize) -> Fetched
     }
 }
 
+// The kind that a line's first character tells.
+fn kind_by(first: u8) -> Option<LineKind>
+    ensures { λ r. ⌜ r ≡ kindBy first ⌝ }
+{
+    match first as char {
+        '%' => Some(LineKind::Bound),
+        '*' => Some(LineKind::Comment),
+        '+' => Some(LineKind::Title),
+        '-' => Some(LineKind::End),
+        ' ' => Some(LineKind::Data),
+        _ => None,
+    }
+}
+
 impl Line {
     // The kind of the line; none where it is empty or begins with another character.
     pub fn kind(&self) -> Option<LineKind>
@@ -80,13 +94,6 @@ impl Line {
         if self.len == 0 {
             return None;
         }
-        match self.columns[0] as char {
-            '%' => Some(LineKind::Bound),
-            '*' => Some(LineKind::Comment),
-            '+' => Some(LineKind::Title),
-            '-' => Some(LineKind::End),
-            ' ' => Some(LineKind::Data),
-            _ => None,
-        }
+        kind_by(self.columns[0])
     }
 }
