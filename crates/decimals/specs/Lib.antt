@@ -1,0 +1,5 @@
+pub mod Scan
+pub mod Number
+pub mod Write
+pub mod Value
+pub mod Numeral
