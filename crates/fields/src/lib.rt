@@ -1,0 +1,2 @@
+// The fields of a line: texts, codes, counts, epochs, angles, heights and parameter types, read and written.
+pub mod texts;
