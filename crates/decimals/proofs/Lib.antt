@@ -10,3 +10,4 @@ pub mod Tens
 pub mod Values
 pub mod Bounds
 pub mod Meaning
+pub mod Runs

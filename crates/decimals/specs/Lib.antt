@@ -3,3 +3,5 @@ pub mod Number
 pub mod Write
 pub mod Value
 pub mod Numeral
+pub mod Justify
+pub mod Grammar

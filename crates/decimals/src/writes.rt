@@ -4,6 +4,7 @@ ghost use mathlib.Core.Bool.{cond};
 ghost use mathlib.Core.List.{_∷_};
 ghost use lib.IntN.{natAbs};
 ghost use lib.ListN.{length};
+ghost use Rattle.decimals.specs.Justify.{blanked, marked, justified};
 ghost use Rattle.decimals.specs.Write.{fixed, below, numberText, deviationText};
 use crate::number::Deviation;
 use crate::number::Number;
@@ -18,6 +19,42 @@ pub fn put_digits(out: &mut [u8], m: u64)
         i -= 1;
         out[i] = b'0' + (rest % 10) as u8;
         rest /= 10;
+    }
+}
+
+// Blanks for the zeros in front, but for the last digit.
+fn blank_zeros(out: &mut [u8])
+    ensures { λ _. ⌜ now (out .exit) ≡ blanked (now (out .entry)) ⌝ }
+{
+    let mut i = 0;
+    while i + 1 < out.len() && out[i] == b'0' {
+        out[i] = b' ';
+        i += 1;
+    }
+}
+
+// A minus sign for the last of the blanks in front.
+fn mark_minus(out: &mut [u8])
+    ensures { λ _. ⌜ now (out .exit) ≡ marked (now (out .entry)) ⌝ }
+{
+    if out.is_empty() {
+        return;
+    }
+    let mut i = 0;
+    while i + 1 < out.len() && out[i + 1] == b' ' {
+        i += 1;
+    }
+    out[i] = b'-';
+}
+
+// The last digits of `n`, as many as there is room for, on the right, with a minus sign or none before them.
+pub fn put_right(out: &mut [u8], negative: bool, n: u64)
+    ensures { λ _. ⌜ now (out .exit) ≡ justified negative (length (now (out .entry))) n ⌝ }
+{
+    put_digits(out, n);
+    blank_zeros(out);
+    if negative {
+        mark_minus(out);
     }
 }
 

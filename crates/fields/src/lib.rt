@@ -1,2 +1,3 @@
 // The fields of a line: texts, codes, counts, epochs, angles, heights and parameter types, read and written.
+pub mod epochs;
 pub mod texts;

@@ -2,10 +2,12 @@
 ghost use mathlib.Core.Path.{_≡_};
 ghost use Prim.Native.Nat.{_≤_, _+_};
 ghost use lib.ListN.{length};
+ghost use Rattle.fields.specs.Order.{lex, sameText};
 ghost use Rattle.fields.specs.Text.{word, padded, readText, filled, readDescription, checkBlank};
 use decimals::scan::is_blank;
 use decimals::scan::skip_blanks;
 use refusals::Fault;
+use std::cmp::Ordering;
 
 // How many bytes come before the first blank.
 fn word_length(s: &[u8]) -> usize
@@ -80,4 +82,32 @@ pub fn check_blank(columns: &[u8]) -> Result<(), Fault>
     ensures { λ r. ⌜ r ≡ checkBlank (now (columns .entry)) ⌝ }
 {
     if is_blank(columns) { Ok(()) } else { Err(Fault::WrongText) }
+}
+
+// Compares two texts byte by byte.
+pub fn compare_text(a: &[u8], b: &[u8]) -> Ordering
+    ensures { λ o. ⌜ o ≡ lex (now (a .entry)) (now (b .entry)) ⌝ }
+{
+    for i in 0..a.len() {
+        if i >= b.len() {
+            return Ordering::Greater;
+        }
+        if a[i] < b[i] {
+            return Ordering::Less;
+        }
+        if b[i] < a[i] {
+            return Ordering::Greater;
+        }
+    }
+    if a.len() < b.len() { Ordering::Less } else { Ordering::Equal }
+}
+
+// Whether two texts are the same.
+pub fn same_text(a: &[u8], b: &[u8]) -> bool
+    ensures { λ r. ⌜ r ≡ sameText (now (a .entry)) (now (b .entry)) ⌝ }
+{
+    match compare_text(a, b) {
+        Ordering::Equal => true,
+        _ => false,
+    }
 }
