@@ -19,7 +19,7 @@ use Rattle.decimals.specs.Scan.{unblank, minus, unsigned, isDigit, digitsFrom,
 use Rattle.decimals.specs.Number.{Digits, Said, afterWhole, digitsOfText, exponent, exponentDigits, blank, signed, said, saidBy, readAt, readNumber, numberOf}
 use Rattle.decimals.proofs.Forms.{two-digits}
 
-count-le : (t : List ℕ) → count t ≤ length t
+pub count-le : (t : List ℕ) → count t ≤ length t
 count-le [] = omega arith
 count-le (c ∷ cs) = cond-both (isDigit c) (1 + count cs) 0 (λ n. n ≤ suc (length cs)) (λ _. omega (arith, count-le cs)) (λ _. omega arith)
 

@@ -8,9 +8,10 @@ use lib.Dec.{eqb, leb}
 use lib.ListN.{length, getD, take, drop, set}
 use native.Mathlib.Omega.{arith}
 use native.Mathlib.Nat.{mod-eq-of-lt, div-eq-of-lt}
+use Rattle.std.specs.declared.option.Option.{Option}
 use Rattle.std.specs.declared.option.Option.the-variants.{Some, None}
 use Rattle.std.proofs.shelf.Lists.{append-nil, append-assoc, length-append, length-drop, getD-drop, take-append-drop, at-drop-more, drop-more, drop-all, take-more, take-more-set, drop-set-lt, set-split}
-use Rattle.std.proofs.shelf.Tests.{cond-true, cond-false, and-from, and-parts, le-leb, leb-true, eq-eqb, eqb-true, ne-eqb, or-from, cases-bool}
+use Rattle.std.proofs.shelf.Tests.{cond-true, cond-false, cond-both, and-from, and-parts, le-leb, leb-true, eq-eqb, eqb-true, ne-eqb, or-from, cases-bool}
 use Rattle.decimals.specs.Scan.{unblank, minus, unsigned, isDigit, digitsFrom, count, past}
 use Rattle.decimals.specs.Number.{Digits, afterWhole, digitsOfText, isEmpty}
 use Rattle.decimals.specs.Numeral.{numeral, tenths}
@@ -18,6 +19,8 @@ use Rattle.decimals.specs.Write.{fixed}
 use Rattle.decimals.specs.Justify.{blanked, marked, justified}
 use Rattle.decimals.specs.Grammar.{OnlyDigits}
 use Rattle.decimals.proofs.Powers.{ten-mono}
+use Rattle.decimals.proofs.Forms.{digitsFrom-lt}
+use Rattle.decimals.proofs.Bounds.{count-le}
 use Rattle.decimals.proofs.Fixed.{digit-of, length-fixed, fixed-value}
 
 pub run-count : (ds r : List ℕ) → OnlyDigits ds → count (ds ++ r) ≡ length ds + count r
@@ -249,3 +252,15 @@ marked-last xs i p (inr h) =
 
 pub marked-stop : (xs : List ℕ) (i : ℕ) → i < length xs → (length xs ≤ i + 1) ⊎ ((i + 1 < length xs) × (getD xs (i + 1) 0 ≡ 32 → ⊥)) → set xs i 45 ≡ take i xs ++ marked (drop i xs)
 marked-stop xs i p h = set-split xs i 45 p ∙ ap (λ t. take i xs ++ t) (sym (marked-last xs i p h))
+
+-- ---- how large they are
+
+abbrev pub Below : ℕ → Option ℕ → Type 0
+Below b None = Unit {0}
+Below b (Some n) = n < b
+
+digits-below : (t : List ℕ) (k : ℕ) → length t ≤ k → digitsFrom 0 t < 10 ^ k
+digits-below t k h = omega (arith, digitsFrom-lt 0 t, ten-mono (count t) k (omega (arith, count-le t)))
+
+pub numeral-below : (t : List ℕ) (k : ℕ) → length t ≤ k → Below (10 ^ k) (numeral t)
+numeral-below t k h = cond-both (leb 1 (length t) && (leb (length t) 9 && isEmpty (past t))) (Some (digitsFrom 0 t)) None (Below (10 ^ k)) (λ _. digits-below t k h) (λ _. tt)

@@ -1,2 +1,4 @@
+pub mod Faults
 pub mod Words
 pub mod Orders
+pub mod Stamps

@@ -20,6 +20,12 @@ Is-less o = Ranked o (Unit {0}) ⊥ ⊥
 abbrev Is-equal : Ordering → Type 0
 Is-equal o = Ranked o ⊥ (Unit {0}) ⊥
 
+pub not-less : Greater ≡ Less → ⊥
+not-less e = subst Is-less (sym e) tt
+
+pub not-equal : Less ≡ Equal → ⊥
+not-equal e = subst Is-equal (sym e) tt
+
 -- ---- one answer after another
 
 pub then-flip : (o p o′ p′ : Ordering) → o ≡ reversed o′ → p ≡ reversed p′ → thenBy o p ≡ reversed (thenBy o′ p′)

@@ -1,3 +1,5 @@
 pub mod Text
 pub mod Order
 pub mod Epoch
+pub mod Count
+pub mod Angle
