@@ -3,3 +3,4 @@ pub mod Order
 pub mod Epoch
 pub mod Count
 pub mod Angle
+pub mod Codes
