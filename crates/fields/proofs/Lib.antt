@@ -2,3 +2,4 @@ pub mod Faults
 pub mod Words
 pub mod Orders
 pub mod Stamps
+pub mod TypeTable

@@ -4,3 +4,4 @@ pub mod Epoch
 pub mod Count
 pub mod Angle
 pub mod Codes
+pub mod ParameterTypes

@@ -4,3 +4,4 @@ pub mod codes;
 pub mod counts;
 pub mod epochs;
 pub mod texts;
+pub mod types;
