@@ -11,3 +11,6 @@ pub mod Values
 pub mod Bounds
 pub mod Meaning
 pub mod Runs
+pub mod Blanks
+pub mod Shapes
+pub mod Wrong

@@ -22,7 +22,7 @@ use Rattle.refusals.specs.declared.Fault.the-variants.{WrongNumber, NumberOutOf
 use Rattle.decimals.proofs.Reading.{readAt-long, readAt-said}
 use Rattle.decimals.proofs.Bounds.{Low, said-low}
 use Rattle.decimals.proofs.Values.{Read, read-value, same-from-values, values-from-same, value-read, unique}
-use Rattle.decimals.proofs.RoundTrip.{numberAs, number-back, deviation-back}
+use Rattle.decimals.proofs.RoundTrip.{length-text, numberAs, number-back, deviation-back}
 
 no-fault : {A : Type 0} (e : Fault) (a : A) → _≡_ {A = Result A Fault} (Err e) (Ok a) → ⊥
 no-fault e a x = let z : _≡_ {A = ℕ} 0 1 = cc in omega arith
@@ -53,7 +53,7 @@ canonical-of k bs n l e = let w = says k bs n (said bs) refl e in read-of k bs (
 pub value-is-kept : ValueIsKept
 value-is-kept bs s n x e =
     let r = read-of 14 bs s n (omega arith) x e in
-    (r .value, ⊎-elim (λ z. inr (z .0)) (λ y. inl (y .1)) (r .sign))
+    (low bs s (short 14 bs n e) x, r .value, ⊎-elim (λ z. inr (z .0)) (λ y. inl (y .1)) (r .sign))
 
 pub same-at : (k : ℕ) (bs cs : List ℕ) (s t : Said) (m n : Number) → k ≤ 14 → said bs ≡ Some s → said cs ≡ Some t → readAt (10 ^ (k + 1)) bs ≡ Ok m → readAt (10 ^ (k + 1)) cs ≡ Ok n
   → (m ≡ n → SameValue s t) × (SameValue s t → m ≡ n)
@@ -76,7 +76,7 @@ refused-rightly bs s x e n c v =
     no-fault NumberOutOfRange (w .0) (sym e ∙ f)
 
 pub numbers-come-back : NumbersComeBack
-numbers-come-back = (λ bs n e. canonical-of 14 bs n (omega arith) e, number-back)
+numbers-come-back = (λ bs n e. canonical-of 14 bs n (omega arith) e, number-back, λ n. omega (arith, length-text 14 (n .mantissa) (n .exponent)))
 
 -- a deviation that is read is a number that is not below zero
 deviation-as : (r : Result Number Fault) (d : Deviation) → deviationOf r ≡ Ok d → r ≡ Ok (numberAs d)
@@ -95,7 +95,7 @@ as-number d (inl z) = inl (ap (λ (n : Number). record { mantissa = n .mantissa;
 as-number d (inr w) = inr w
 
 pub deviations-come-back : DeviationsComeBack
-deviations-come-back = (λ bs d e. as-number d (canonical-of 5 bs (numberAs d) (omega arith) (deviation-as (readAt (10 ^ 6) bs) d e)), deviation-back)
+deviations-come-back = (λ bs d e. as-number d (canonical-of 5 bs (numberAs d) (omega arith) (deviation-as (readAt (10 ^ 6) bs) d e)), deviation-back, λ d. length-text 5 (d .mantissa) (d .exponent))
 
 pub same-deviations : SameDeviations
 same-deviations bs cs s t d e x y a b =

@@ -109,7 +109,7 @@ pub said-signed : (neg : Bool) (k m : ℕ) (q : ℤ) → said (cond neg 45 32 �
 said-signed true k m q = refl
 said-signed false k m q = said-plain k m q
 
-length-text : (k m : ℕ) (q : ℤ) → length (digitsText k m q) ≡ k + 6
+pub length-text : (k m : ℕ) (q : ℤ) → length (digitsText k m q) ≡ k + 6
 length-text k m q = simp (length-append, length-fixed) (omega arith)
 
 -- what is said of a canonical number, at any number of digits

@@ -172,7 +172,7 @@ front-of (c ∷ cs) r o h = let f = digit-front c (cs ++ r) (o .0) in (f .1, f .
 pub right-shown : (w n : ℕ) (r : List ℕ) → 1 ≤ w → Shown (fixed w n) r
 right-shown w n r h = blanked-read (fixed w n) r (only-fixed w n) (omega (arith, length-fixed w n))
 
-justified-plain : (w n : ℕ) (r : List ℕ) → 1 ≤ w → n < 10 ^ w → Justified false w n r
+pub justified-plain : (w n : ℕ) (r : List ℕ) → 1 ≤ w → n < 10 ^ w → Justified false w n r
 justified-plain w n r h l =
     let s = right-shown w n r h in
     let f = front-of (s .digits) r (s .only) (s .some) in
@@ -264,3 +264,19 @@ digits-below t k h = omega (arith, digitsFrom-lt 0 t, ten-mono (count t) k (omeg
 
 pub numeral-below : (t : List ℕ) (k : ℕ) → length t ≤ k → Below (10 ^ k) (numeral t)
 numeral-below t k h = cond-both (leb 1 (length t) && (leb (length t) 9 && isEmpty (past t))) (Some (digitsFrom 0 t)) None (Below (10 ^ k)) (λ _. digits-below t k h) (λ _. tt)
+
+-- ---- how long they are
+
+length-blanked : (ds : List ℕ) → length (blanked ds) ≡ length ds
+length-blanked [] = refl
+length-blanked (c ∷ []) = refl
+length-blanked (c ∷ (d ∷ ds)) = cond-both (eqb c 48) (32 ∷ blanked (d ∷ ds)) (c ∷ (d ∷ ds)) (λ t. length t ≡ suc (suc (length ds))) (λ _. ap suc (length-blanked (d ∷ ds))) (λ _. refl)
+
+length-marked : (t : List ℕ) → length (marked t) ≡ length t
+length-marked [] = refl
+length-marked (c ∷ []) = refl
+length-marked (c ∷ (d ∷ ds)) = cond-both (eqb d 32) (c ∷ marked (d ∷ ds)) (45 ∷ (d ∷ ds)) (λ t. length t ≡ suc (suc (length ds))) (λ _. ap suc (length-marked (d ∷ ds))) (λ _. refl)
+
+pub length-justified : (neg : Bool) (w n : ℕ) → length (justified neg w n) ≡ w
+length-justified true w n = length-marked (blanked (fixed w n)) ∙ (length-blanked (fixed w n) ∙ length-fixed w n)
+length-justified false w n = length-blanked (fixed w n) ∙ length-fixed w n

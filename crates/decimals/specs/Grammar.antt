@@ -7,8 +7,10 @@ use mathlib.Core.Logic.{_⊎_}
 use lib.IntN.{ℤ, pos, _-ℤ_}
 use lib.ListN.{length, replicate}
 use Rattle.std.specs.declared.option.Option.the-variants.{Some}
+use Rattle.std.specs.declared.result.Result.the-variants.{Err}
+use Rattle.refusals.specs.declared.Fault.the-variants.{WrongNumber}
 use Rattle.decimals.specs.Scan.{isDigit, digitsFrom, minus}
-use Rattle.decimals.specs.Number.{Said, said, signed}
+use Rattle.decimals.specs.Number.{Said, said, signed, readNumber, readDeviation}
 
 abbrev pub OnlyDigits : List ℕ → Type 0
 OnlyDigits [] = Unit {0}
@@ -73,3 +75,13 @@ meant p = record {
 abbrev pub NumbersHaveForm : Type 0
 NumbersHaveForm = ((p : Parts) → WellFormed p → said (spelled p) ≡ Some (meant p))
   × ((bs : List ℕ) (s : Said) → said bs ≡ Some s → (p : Parts) × WellFormed p × (spelled p ≡ bs))
+
+-- no well-formed parts make the text
+abbrev pub Formless : List ℕ → Type 0
+Formless bs = (p : Parts) → WellFormed p → spelled p ≡ bs → ⊥
+
+-- a field of at most 21 bytes has the wrong form exactly where no well-formed parts make it
+abbrev pub WrongExactly : Type 0
+WrongExactly = (bs : List ℕ) → length bs ≤ 21
+  → ((readNumber bs ≡ Err WrongNumber → Formless bs) × (Formless bs → readNumber bs ≡ Err WrongNumber))
+  × ((readDeviation bs ≡ Err WrongNumber → Formless bs) × (Formless bs → readDeviation bs ≡ Err WrongNumber))

@@ -3,7 +3,8 @@ use Prim.Native.Nat.{ℕ, _+_, _*_, _^_}
 use mathlib.Core.Path.{_≡_}
 use mathlib.Core.List.{List}
 use mathlib.Core.Logic.{_⊎_}
-use lib.IntN.{ℤ, pos, natAbs, _+ℤ_, _-ℤ_}
+use lib.IntN.{ℤ, pos, negsuc, natAbs, _+ℤ_, _-ℤ_}
+use lib.Signed.{_≤ℤ_}
 use Rattle.std.specs.declared.option.Option.the-variants.{Some}
 use Rattle.std.specs.declared.result.Result.the-variants.{Ok, Err}
 use Rattle.decimals.specs.Number.{Said, said, readNumber, readDeviation}
@@ -23,10 +24,10 @@ worth k n = units (n .mantissa) (n .exponent -ℤ pos k)
 abbrev pub SameValue : Said → Said → Type 0
 SameValue s t = (units (s .value) (s .power) ≡ units (t .value) (t .power)) × ((s .negative ≡ t .negative) ⊎ (s .value ≡ 0))
 
--- the number read has the value that the text says, and its sign where it is not zero
+-- the number read has the value that the text says, in whole units, and its sign where it is not zero
 abbrev pub ValueIsKept : Type 0
 ValueIsKept = (bs : List ℕ) (s : Said) (n : Number) → said bs ≡ Some s → readNumber bs ≡ Ok n
-  → (units (s .value) (s .power) ≡ worth 14 n) × ((n .negative ≡ s .negative) ⊎ (s .value ≡ 0))
+  → (negsuc 199 ≤ℤ s .power) × (units (s .value) (s .power) ≡ worth 14 n) × ((n .negative ≡ s .negative) ⊎ (s .value ≡ 0))
 
 -- two texts are read as the same number exactly where they say the same value
 abbrev pub SameExactly : Type 0

@@ -6,6 +6,7 @@ use mathlib.Core.List.{List, [], _∷_, _++_}
 use mathlib.Core.Logic.{_⊎_}
 use lib.IntN.{ℤ, pos, negsuc, natAbs}
 use lib.Signed.{_≤ℤ_}
+use lib.ListN.{length}
 use Rattle.decimals.specs.Number.{zeroNumber, readNumber, readDeviation}
 use Rattle.std.specs.declared.result.Result.the-variants.{Ok}
 use Rattle.decimals.specs.declared.number.Number.{Number}
@@ -46,11 +47,13 @@ zeroDeviation = record { mantissa = 0; exponent = pos 0 }
 abbrev pub CanonicalDeviation : Deviation → Type 0
 CanonicalDeviation d = (d ≡ zeroDeviation) ⊎ Kept 5 (d .mantissa) (d .exponent)
 
--- what reading gives is kept so, and what is written of such a number is read as that number
+-- what reading gives is kept so, what is written of such a number is read as that number, and it fills its columns
 abbrev pub NumbersComeBack : Type 0
 NumbersComeBack = ((bs : List ℕ) (n : Number) → readNumber bs ≡ Ok n → Canonical 14 n)
   × ((n : Number) → Canonical 14 n → readNumber (numberText n) ≡ Ok n)
+  × ((n : Number) → length (numberText n) ≡ 21)
 
 abbrev pub DeviationsComeBack : Type 0
 DeviationsComeBack = ((bs : List ℕ) (d : Deviation) → readDeviation bs ≡ Ok d → CanonicalDeviation d)
   × ((d : Deviation) → CanonicalDeviation d → readDeviation (deviationText d) ≡ Ok d)
+  × ((d : Deviation) → length (deviationText d) ≡ 11)

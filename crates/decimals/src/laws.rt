@@ -1,5 +1,6 @@
 // What reading and writing have to do with each other, and with the values of numbers.
 ghost use mathlib.Core.Path.{_≡_};
+ghost use Rattle.decimals.specs.Grammar.{NumbersHaveForm, WrongExactly};
 ghost use Rattle.decimals.specs.Value.{ValueIsKept, SameExactly, OneForm, RefusedRightly, SameDeviations};
 ghost use Rattle.decimals.specs.Write.{NumbersComeBack, DeviationsComeBack};
 
@@ -7,6 +8,15 @@ ghost use Rattle.decimals.specs.Write.{NumbersComeBack, DeviationsComeBack};
 pub fn numbers_come_back() -> u8
     ensures numbers { λ _. ⌜ NumbersComeBack ⌝ }
     ensures deviations { λ _. ⌜ DeviationsComeBack ⌝ }
+{
+    0
+}
+
+// The texts that say a number are exactly those of the form: blanks, a sign or none, digits with at most one
+// point and at least one digit, an exponent or none, blanks. Any other field is refused for its form, and none of these is.
+pub fn numbers_have_form() -> u8
+    ensures form { λ _. ⌜ NumbersHaveForm ⌝ }
+    ensures wrong { λ _. ⌜ WrongExactly ⌝ }
 {
     0
 }
