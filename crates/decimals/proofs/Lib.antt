@@ -1,0 +1,16 @@
+pub mod Powers
+pub mod Fronts
+pub mod Forms
+pub mod Sizes
+pub mod Scaling
+pub mod Reading
+pub mod Fixed
+pub mod RoundTrip
+pub mod Tens
+pub mod Values
+pub mod Bounds
+pub mod Meaning
+pub mod Runs
+pub mod Blanks
+pub mod Shapes
+pub mod Wrong

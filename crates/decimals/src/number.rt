@@ -1,0 +1,16 @@
+// What the register keeps of a decimal number.
+
+// A number: ± mantissa × 10^(exponent - 14), with a mantissa of fifteen digits. Zero is (false, 0, 0).
+#[derive(Clone, Copy, PartialEq, Eq, Debug)]
+pub struct Number {
+    pub negative: bool,
+    pub mantissa: u64,
+    pub exponent: i32,
+}
+
+// A standard deviation: mantissa × 10^(exponent - 5), with a mantissa of six digits. Zero is (0, 0).
+#[derive(Clone, Copy, PartialEq, Eq, Debug)]
+pub struct Deviation {
+    pub mantissa: u64,
+    pub exponent: i32,
+}

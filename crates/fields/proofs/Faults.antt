@@ -1,0 +1,10 @@
+-- A fault is no result.
+use Prim.Native.Nat.{ℕ}
+use mathlib.Core.Path.{_≡_}
+use native.Mathlib.Omega.{arith}
+use Rattle.std.specs.declared.result.Result.{Result}
+use Rattle.std.specs.declared.result.Result.the-variants.{Ok, Err}
+use Rattle.refusals.specs.declared.Fault.{Fault}
+
+pub no-fault : {A : Type 0} (e : Fault) (a : A) → _≡_ {A = Result A Fault} (Err e) (Ok a) → ⊥
+no-fault e a x = let z : _≡_ {A = ℕ} 0 1 = cc in omega arith

@@ -1,0 +1,5 @@
+pub mod Faults
+pub mod Words
+pub mod Orders
+pub mod Stamps
+pub mod TypeTable
