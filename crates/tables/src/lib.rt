@@ -1,0 +1,2 @@
+// The ordered table: records in strictly rising key order over a lent slice, blanks after them.
+pub mod table;
