@@ -34,16 +34,16 @@ module _ {R : Type 0} (cmp : R → R → Ordering) (r : R) (xs : List R) where
   fuel (suc n) (suc m) low high p q =
       ⊎-elim
       (λ lt.
-          let o = cmp (getD xs (middle low high) r) r in
-          halving-more n low high lt
-          ∙ ap (λ t. by3 o t (Found (middle low high)) (halving cmp r xs n low (middle low high))) (fuel n m (middle low high + 1) high (omega arith) (omega arith))
-          ∙ ap (λ t. by3 o (halving cmp r xs m (middle low high + 1) high) (Found (middle low high)) t) (fuel n m low (middle low high) (omega arith) (omega arith))
-          ∙ sym (halving-more m low high lt))
+      let o = cmp (getD xs (middle low high) r) r in
+      halving-more n low high lt
+      ∙ ap (λ t. by3 o t (Found (middle low high)) (halving cmp r xs n low (middle low high))) (fuel n m (middle low high + 1) high (omega arith) (omega arith))
+      ∙ ap (λ t. by3 o (halving cmp r xs m (middle low high + 1) high) (Found (middle low high)) t) (fuel n m low (middle low high) (omega arith) (omega arith))
+      ∙ sym (halving-more m low high lt))
       (λ ge. halving-end (suc n) low high ge ∙ sym (halving-end (suc m) low high ge))
       (cases-lt low high)
 
   pub halve-step : (low high : ℕ) (x : R) (o : Ordering) → low < high → high ≤ length xs → x ≡ getD xs (middle low high) x → o ≡ cmp x r
-    → halving cmp r xs (high - low) low high ≡ step o (high - (middle low high + 1)) (middle low high - low) low high
+      → halving cmp r xs (high - low) low high ≡ step o (high - (middle low high + 1)) (middle low high - low) low high
   halve-step low high x o lt le read e =
       let n = high - low - 1 in
       let m = middle low high in
@@ -57,8 +57,8 @@ module _ {R : Type 0} (cmp : R → R → Ordering) (r : R) (xs : List R) where
 
 -- a step among the first `used` rows
 pub seek-step : {R : Type 0} (cmp : R → R → Ordering) (r : R) (rows : List R) (used low high : ℕ) (x : R) (o : Ordering) → low < high → high ≤ used → used ≤ length rows
-  → x ≡ getD rows (middle low high) x → o ≡ cmp x r
-  → halving cmp r (take used rows) (high - low) low high ≡ step cmp r (take used rows) o (high - (middle low high + 1)) (middle low high - low) low high
+    → x ≡ getD rows (middle low high) x → o ≡ cmp x r
+    → halving cmp r (take used rows) (high - low) low high ≡ step cmp r (take used rows) o (high - (middle low high + 1)) (middle low high - low) low high
 seek-step cmp r rows used low high x o lt le within read e =
     let n : length (take used rows) ≡ used = length-take-le used rows within in
     halve-step cmp r (take used rows) low high x o lt (omega arith) (read ∙ sym (getD-take used rows (middle low high) x (omega arith))) e

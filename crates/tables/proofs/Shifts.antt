@@ -32,7 +32,7 @@ module _ {R : Type 0} (rows start : List R) (u i j : ℕ) (x : R) (next : i ≡ 
       let lt : j < i = omega arith in
       let n : length (take u start) ≡ u = length-take-le u start (omega arith) in
       let same : x ≡ getD (take u start) j x =
-          read ∙ sym (getD-take i rows j x lt) ∙ ap (λ t. getD t j x) below ∙ getD-take i start j x lt ∙ sym (getD-take u start j x (omega arith)) in
+      read ∙ sym (getD-take i rows j x lt) ∙ ap (λ t. getD t j x) below ∙ getD-take i start j x lt ∙ sym (getD-take u start j x (omega arith)) in
       ap (λ t. drop t (set rows i x)) (sym next)
       ∙ drop-set rows i x (omega arith)
       ∙ ap (λ t. x ∷ t) above
@@ -41,7 +41,7 @@ module _ {R : Type 0} (rows start : List R) (u i j : ℕ) (x : R) (next : i ≡ 
       ∙ ap (λ t. t ++ drop (u + 1) start) (sym (drop-more (take u start) j x (omega arith)))
 
 pub rise-end : {R : Type 0} (rows start : List R) (u k : ℕ) (r : R) → k ≤ u → k < length rows → take k rows ≡ take k start → drop (k + 1) rows ≡ risen start u k
-  → set rows k r ≡ inserted (take u start) k r ++ drop (u + 1) start
+    → set rows k r ≡ inserted (take u start) k r ++ drop (u + 1) start
 rise-end rows start u k r le lt below above =
     set-split rows k r lt
     ∙ ap (λ t. take k rows ++ r ∷ drop t rows) (sym (add-one k))
@@ -81,7 +81,7 @@ removed-used start u i k n lt le =
     ∙ take-at (removed (take u start) k) (drop u start) i (omega arith)
 
 pub fall-end : {R : Type 0} (rows start : List R) (k : ℕ) (b : R) (i u : ℕ) → i + 1 ≡ u → k < u → u ≤ length rows → length rows ≡ length start → removed rows i ≡ removed start k
-  → drop u rows ≡ drop u start → set rows i b ≡ removed (take u start) k ++ (b ∷ drop u start)
+    → drop u rows ≡ drop u start → set rows i b ≡ removed (take u start) k ++ (b ∷ drop u start)
 fall-end rows start k b i u n lk le long e d =
     let lt : i < length rows = omega arith in
     let li : i ≤ length rows = omega arith in

@@ -23,11 +23,11 @@ abbrev pub halving : {R : Type 0} → (R → R → Ordering) → R → List R �
 halving cmp r xs zero low high = Gap low
 halving cmp r xs (suc n) low high =
     cond (ltb low high)
-        (by3 (cmp (getD xs (middle low high) r) r)
-            (halving cmp r xs n (middle low high + 1) high)
-            (Found (middle low high))
-            (halving cmp r xs n low (middle low high)))
-        (Gap low)
+    (by3 (cmp (getD xs (middle low high) r) r)
+    (halving cmp r xs n (middle low high + 1) high)
+    (Found (middle low high))
+    (halving cmp r xs n low (middle low high)))
+    (Gap low)
 
 abbrev pub sought : {R : Type 0} → (R → R → Ordering) → R → List R → Place
 sought cmp r xs = halving cmp r xs (length xs) 0 (length xs)

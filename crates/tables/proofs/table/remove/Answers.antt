@@ -10,10 +10,11 @@ use Rattle.tables.proofs.table.remove.Needs as need
 
 pub loop-i-again : need.loop-i-again
 loop-i-again g c =
-    let lt : c .loop-i .i + 1 < length (c .loop-i .rows) = omega arith in
-    (omega arith,
-     fall-step (c .loop-i .rows) (c .loop-i .i) (c .index-rows-i .result) lt (c .index-rows-i .is) ∙ c .loop-i .inv .1,
-     drop-set-lt (c .args .used) (c .loop-i .rows) (c .loop-i .i) (c .index-rows-i .result) (c .loop-i .inv .0) ∙ c .loop-i .inv .2)
+    let lt : c .loop-i .i + 1 < length (c .loop-i .rows) = omega arith in (
+      omega arith,
+      fall-step (c .loop-i .rows) (c .loop-i .i) (c .index-rows-i .result) lt (c .index-rows-i .is) ∙ c .loop-i .inv .1,
+      drop-set-lt (c .args .used) (c .loop-i .rows) (c .loop-i .i) (c .index-rows-i .result) (c .loop-i .inv .0) ∙ c .loop-i .inv .2,
+    )
 
 pub returns : need.returns
 returns g c =
