@@ -1,0 +1,5 @@
+pub mod Tri
+pub mod Lifts
+pub mod Runs
+pub mod Drawn
+pub mod Outcomes
