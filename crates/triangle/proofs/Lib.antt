@@ -3,3 +3,5 @@ pub mod Lifts
 pub mod Runs
 pub mod Drawn
 pub mod Outcomes
+pub mod Fills
+pub mod States
