@@ -5,3 +5,5 @@ pub mod Drawn
 pub mod Outcomes
 pub mod Fills
 pub mod States
+pub mod Rules
+pub mod Files

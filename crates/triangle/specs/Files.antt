@@ -2,7 +2,7 @@
 use mathlib.Core.Bool.{Bool, true, false}
 use mathlib.Core.List.{List}
 use mathlib.Core.Path.{_≡_}
-use Prim.Native.Nat.{ℕ, _≤_, _<_}
+use Prim.Native.Nat.{ℕ, _<_, min}
 use lib.ListN.{length, getD}
 use Rattle.std.specs.declared.cmp.Ordering.{Ordering}
 use Rattle.std.specs.declared.cmp.Ordering.the-variants.{Equal}
@@ -41,6 +41,17 @@ Apart n ρ = (p q : ℕ) → counted n p ≡ true → counted n q ≡ true → r
 abbrev pub Renumbered : Type 0
 Renumbered = (n : ℕ) (ρ : List ℕ) → Apart n ρ → (i j p q : ℕ) → counted n i ≡ true → counted n j ≡ true → counted n p ≡ true → counted n q ≡ true
   → same (rankOf ρ i) (rankOf ρ j) (rankOf ρ p) (rankOf ρ q) ≡ same i j p q
+
+-- of a file whose elements may all be stated: the cell of two indices has the value that an element states for them, in either order, and else what it had
+pub record Cell-by-index {X : Type 0} (void : X → Bool) (es : List (Element X)) (before after : X) (i j : ℕ) : Type 0 where
+  pub found : (k : ℕ) (d : Element X) → k < length es → States void i j (getD es k d) → after ≡ getD es k d .value
+  pub none : ((k : ℕ) (d : Element X) → k < length es → States void i j (getD es k d) → ⊥) → after ≡ before
+
+abbrev pub By-index : (X : Type 0) → (X → Bool) → Type 0
+By-index X void = (ρ : List ℕ) (count : ℕ) (side : Side) (len : ℕ) (f : ℕ → ℕ → X) (es : List (Element X)) → Symmetric f → Apart (min count (length ρ)) ρ
+  → taken void ρ count side len f es ≡ length es
+  → (i j : ℕ) → counted (min count (length ρ)) i ≡ true → counted (min count (length ρ)) j ≡ true
+  → Cell-by-index void es (f (rankOf ρ i) (rankOf ρ j)) (run void ρ count side len f es (rankOf ρ i) (rankOf ρ j)) i j
 
 -- records of a table whose keys rise that have one rank have one key
 abbrev pub Ranks-apart : (R : Type 0) → (R → R → Ordering) → Type 0

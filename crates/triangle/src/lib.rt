@@ -2,3 +2,4 @@
 pub mod cell;
 pub mod moves;
 pub mod row;
+pub mod laws;
