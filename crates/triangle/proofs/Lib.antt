@@ -1,0 +1,9 @@
+pub mod Tri
+pub mod Lifts
+pub mod Runs
+pub mod Drawn
+pub mod Outcomes
+pub mod Fills
+pub mod States
+pub mod Rules
+pub mod Files

@@ -1,0 +1,4 @@
+pub mod Triangle
+pub mod Laws
+pub mod Statements
+pub mod Files
