@@ -8,3 +8,6 @@ use Rattle.refusals.specs.declared.Fault.{Fault}
 
 pub no-fault : {A : Type 0} (e : Fault) (a : A) → _≡_ {A = Result A Fault} (Err e) (Ok a) → ⊥
 no-fault e a x = let z : _≡_ {A = ℕ} 0 1 = cc in omega arith
+
+pub same-result : {A : Type 0} (a b : A) → _≡_ {A = Result A Fault} (Ok a) (Ok b) → a ≡ b
+same-result a b x = cc

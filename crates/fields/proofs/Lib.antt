@@ -3,3 +3,5 @@ pub mod Words
 pub mod Orders
 pub mod Stamps
 pub mod TypeTable
+pub mod Phrases
+pub mod Degrees

@@ -52,32 +52,6 @@ text-long n bs h = cond-false _ _ _ (and-right (leb 1 (length (word (unblank bs)
 pub text-more : (n : ℕ) (bs : List ℕ) → blank (afterWord (unblank bs)) ≡ false → readText n bs ≡ Err WrongText
 text-more n bs h = cond-false _ _ _ (and-right (leb 1 (length (word (unblank bs)))) (leb (length (word (unblank bs))) n && blank (afterWord (unblank bs))) (and-right (leb (length (word (unblank bs))) n) (blank (afterWord (unblank bs))) h))
 
--- a word that is held is read again
-word-front : (w : List ℕ) (k : ℕ) → word w ≡ w → (word (w ++ replicate k 32) ≡ w) × (afterWord (w ++ replicate k 32) ≡ replicate k 32)
-word-front [] zero e = (refl, refl)
-word-front [] (suc k) e = (refl, refl)
-word-front (c ∷ cs) k e =
-    ⊎-elim
-    (λ y. let z : [] ≡ c ∷ cs = sym (cond-true (eqb c 32) [] (c ∷ word cs) y) ∙ e in let q : _≡_ {A = ℕ} 0 1 = cc in absurd (omega arith))
-    (λ n.
-        let z : c ∷ word cs ≡ c ∷ cs = sym (cond-false (eqb c 32) [] (c ∷ word cs) n) ∙ e in
-        let t : word cs ≡ cs = cc in
-        let r = word-front cs k t in
-        (cond-false _ _ _ n ∙ ap (λ x. c ∷ x) (r .0), cond-false _ _ _ n ∙ r .1))
-    (cases-bool (eqb c 32))
-
-blanks : (k : ℕ) → blank (replicate k 32) ≡ true
-blanks zero = refl
-blanks (suc k) = blanks k
-
-no-blank-front : (w t : List ℕ) → word w ≡ w → 1 ≤ length w → unblank (w ++ t) ≡ w ++ t
-no-blank-front [] t e h = absurd (omega arith)
-no-blank-front (c ∷ cs) t e h =
-    ⊎-elim
-    (λ y. let z : [] ≡ c ∷ cs = sym (cond-true (eqb c 32) [] (c ∷ word cs) y) ∙ e in let q : _≡_ {A = ℕ} 0 1 = cc in absurd (omega arith))
-    (λ n. cond-false _ _ _ n)
-    (cases-bool (eqb c 32))
-
 -- what follows the word, as the code cuts it
 pub word-cut : (bs body : List ℕ) (n : ℕ) → body ≡ unblank bs → n ≡ length (word body) → take (length body - n) (drop n body) ≡ afterWord (unblank bs)
 word-cut bs body n e l = take-rest body n ∙ (ap (λ k. drop k body) l ∙ (word-is body .1 ∙ ap afterWord e))
@@ -94,7 +68,7 @@ over-more w n i h l =
 
 -- ---- descriptions
 
-filled-none : (t : List ℕ) → blank t ≡ true → filled t ≡ 0
+pub filled-none : (t : List ℕ) → blank t ≡ true → filled t ≡ 0
 filled-none [] e = refl
 filled-none (c ∷ cs) e = cond-true _ _ _ e
 

@@ -46,3 +46,46 @@ readDescription n bs = cond (leb (filled (unblank bs)) n) (Ok (padded n (trimmed
 
 abbrev pub checkBlank : List ℕ → Result (Unit {0}) Fault
 checkBlank bs = cond (blank bs) (Ok tt) (Err WrongText)
+
+-- no byte is blank
+abbrev pub Solid : List ℕ → Type 0
+Solid [] = Unit {0}
+Solid (c ∷ cs) = (c ≡ 32 → ⊥) × Solid cs
+
+-- one word of at most n bytes
+pub record Word (n : ℕ) (w : List ℕ) : Type 0 where
+  pub solid : Solid w
+  pub some : 1 ≤ length w
+  pub fits : length w ≤ n
+
+-- a text is one word among blanks, and kept as that word and blanks up to n bytes
+abbrev pub TextsHaveForm : Type 0
+TextsHaveForm = ((a b n : ℕ) (w : List ℕ) → Word n w → readText n (replicate a 32 ++ (w ++ replicate b 32)) ≡ Ok (padded n w))
+  × ((n : ℕ) (bs t : List ℕ) → readText n bs ≡ Ok t → (w : List ℕ) × Word n w × (t ≡ padded n w) × ((a : ℕ) × (b : ℕ) × (bs ≡ replicate a 32 ++ (w ++ replicate b 32))))
+
+-- what is kept of a text has n bytes, and is read as it was
+abbrev pub TextsComeBack : Type 0
+TextsComeBack = (n : ℕ) (bs t : List ℕ) → readText n bs ≡ Ok t → (length t ≡ n) × (readText n t ≡ Ok t)
+
+-- no blank is at either end
+abbrev pub Begun : List ℕ → Type 0
+Begun [] = Unit {0}
+Begun (c ∷ cs) = c ≡ 32 → ⊥
+
+abbrev pub Ended : List ℕ → Type 0
+Ended [] = Unit {0}
+Ended (c ∷ []) = c ≡ 32 → ⊥
+Ended (c ∷ (d ∷ ds)) = Ended (d ∷ ds)
+
+pub record Phrase (n : ℕ) (w : List ℕ) : Type 0 where
+  pub begun : Begun w
+  pub ended : Ended w
+  pub fits : length w ≤ n
+
+-- a description is anything among blanks
+abbrev pub DescriptionsHaveForm : Type 0
+DescriptionsHaveForm = ((a b n : ℕ) (w : List ℕ) → Phrase n w → readDescription n (replicate a 32 ++ (w ++ replicate b 32)) ≡ Ok (padded n w))
+  × ((n : ℕ) (bs t : List ℕ) → readDescription n bs ≡ Ok t → (w : List ℕ) × Phrase n w × (t ≡ padded n w) × ((a : ℕ) × (b : ℕ) × (bs ≡ replicate a 32 ++ (w ++ replicate b 32))))
+
+abbrev pub DescriptionsComeBack : Type 0
+DescriptionsComeBack = (n : ℕ) (bs t : List ℕ) → readDescription n bs ≡ Ok t → (length t ≡ n) × (readDescription n t ≡ Ok t)
