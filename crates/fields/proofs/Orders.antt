@@ -129,3 +129,7 @@ lex-short a b i p q = ap (λ t. lex t (drop i b)) (drop-all i a p) ∙ ap (lex [
 
 pub lex-end : (a b : List ℕ) (i : ℕ) → length a ≤ i → length b ≤ i → lex (drop i a) (drop i b) ≡ Equal
 lex-end a b i p q = ap (λ t. lex t (drop i b)) (drop-all i a p) ∙ ap (lex []) (drop-all i b q)
+
+pub lex-self : (xs : List ℕ) → lex xs xs ≡ Equal
+lex-self [] = refl
+lex-self (x ∷ xs) = ap (λ o. thenBy o (lex xs xs)) (rank-equal x x refl) ∙ lex-self xs

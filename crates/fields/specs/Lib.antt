@@ -5,3 +5,5 @@ pub mod Count
 pub mod Angle
 pub mod Codes
 pub mod ParameterTypes
+pub mod Widths
+pub mod Examples

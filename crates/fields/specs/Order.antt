@@ -29,3 +29,6 @@ isEqual Greater = false
 -- whether two texts are the same
 abbrev pub sameText : List ℕ → List ℕ → Bool
 sameText xs ys = isEqual (lex xs ys)
+
+abbrev pub TextsAreOrdered : Type 0
+TextsAreOrdered = TotalOrder lex

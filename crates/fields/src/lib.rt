@@ -3,5 +3,6 @@ pub mod angles;
 pub mod codes;
 pub mod counts;
 pub mod epochs;
+pub mod laws;
 pub mod texts;
 pub mod types;
