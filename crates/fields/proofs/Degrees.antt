@@ -43,11 +43,13 @@ count-below (Some m) n b h e = subst (λ k. k < b) (same-result m n e) h
 count-below None n b h e = absurd (no-fault WrongNumber n e)
 
 pub counts-come-back : CountsComeBack
-counts-come-back =
-    ( (λ bs n l e. count-below (numeral (unblank bs)) n 100000 (numeral-below (unblank bs) 5 (omega (arith, unblank-le bs))) e)
-    , (λ n h.
-        ( ap orWrongNumber (right-numeral 5 n (omega arith) (omega arith) h)
-        , ap orWrongNumber (ap numeral (digits-unblank 4 n) ∙ (numeral-fixed 5 n (omega arith) (omega arith) ∙ ap Some (mod-eq-of-lt h))))))
+counts-come-back = (
+  (λ bs n l e. count-below (numeral (unblank bs)) n 100000 (numeral-below (unblank bs) 5 (omega (arith, unblank-le bs))) e),
+  (λ n h. (
+    ap orWrongNumber (right-numeral 5 n (omega arith) (omega arith) h),
+    ap orWrongNumber (ap numeral (digits-unblank 4 n) ∙ (numeral-fixed 5 n (omega arith) (omega arith) ∙ ap Some (mod-eq-of-lt h))),
+  )),
+)
 
 -- ---- the parts of an angle's text
 
@@ -122,7 +124,7 @@ latitude-bytes neg n h =
     let u : unblank (columns 0 3 (angleBytes neg n)) ≡ unblank (justified neg 3 d ++ []) = ap unblank (c .degrees ∙ sym (append-nil (justified neg 3 d))) in
     let x : minus (unblank (columns 0 3 (angleBytes neg n))) ≡ neg = ap minus u ∙ j .sign in
     let y : numeral (unsigned (unblank (columns 0 3 (angleBytes neg n)))) ≡ Some d =
-        ap (λ t. numeral (unsigned t)) u ∙ (ap numeral (j .rest ∙ append-nil (j .digits)) ∙ (numeral-run (j .digits) (j .only) (j .some) (omega (arith, j .few)) ∙ ap Some (j .value))) in
+    ap (λ t. numeral (unsigned t)) u ∙ (ap numeral (j .rest ∙ append-nil (j .digits)) ∙ (numeral-run (j .digits) (j .only) (j .some) (omega (arith, j .few)) ∙ ap Some (j .value))) in
     cond-true _ _ _ (c .spaced)
     ∙ (ap (λ b. angleRest 3240000 b (numeral (unsigned (unblank (columns 0 3 (angleBytes neg n))))) (angleBytes neg n)) x
     ∙ (ap (λ o. angleRest 3240000 neg o (angleBytes neg n)) y ∙ rest-read 3240000 neg neg n h))
@@ -157,9 +159,9 @@ angle-ranged most neg (Some d) (Some m) (Some s) =
     let n : ℕ = d * 36000 + m * 600 + s in
     cond-both (ltb m 60 && (ltb s 600 && leb n most)) (Ok (signed neg n)) (Err NumberOutOfRange) (InRange most neg)
     (λ t.
-        let p = and-parts (ltb m 60) (ltb s 600 && leb n most) t in
-        let q = and-parts (ltb s 600) (leb n most) (p .1) in
-        record { size = n; few = leb-true n most (q .1); is = refl })
+    let p = and-parts (ltb m 60) (ltb s 600 && leb n most) t in
+    let q = and-parts (ltb s 600) (leb n most) (p .1) in
+    record { size = n; few = leb-true n most (q .1); is = refl })
     (λ _. tt)
 angle-ranged most neg (Some d) (Some m) None = tt
 angle-ranged most neg (Some d) None s = tt
@@ -176,18 +178,20 @@ longitude-ranged bs = cond-both (spaced bs) (angleRest 12959999 false (numeral (
     (λ _. tt)
 
 pub latitudes-come-back : LatitudesComeBack
-latitudes-come-back =
-    ( (λ bs z e. let r = subst (InRange 3240000 (minus (unblank (columns 0 3 bs)))) e (latitude-ranged bs) in omega (arith, r .few, ap natAbs (r .is), natAbs-signed (minus (unblank (columns 0 3 bs))) (r .size)))
-    , (λ z h. latitude-bytes (below z) (natAbs z) h ∙ ap Ok (signed-back z)))
+latitudes-come-back = (
+  (λ bs z e. let r = subst (InRange 3240000 (minus (unblank (columns 0 3 bs)))) e (latitude-ranged bs) in omega (arith, r .few, ap natAbs (r .is), natAbs-signed (minus (unblank (columns 0 3 bs))) (r .size))),
+  (λ z h. latitude-bytes (below z) (natAbs z) h ∙ ap Ok (signed-back z)),
+)
 
 longitude-back : (z : ℤ) → pos 0 ≤ℤ z → z ≤ℤ pos 12959999 → readLongitude (angleText z) ≡ Ok z
 longitude-back (pos n) a b = longitude-bytes n (omega (arith, ints, b))
 longitude-back (negsuc n) a b = absurd (omega (arith, ints, a))
 
 pub longitudes-come-back : LongitudesComeBack
-longitudes-come-back =
-    ( (λ bs z e. let r = subst (InRange 12959999 false) e (longitude-ranged bs) in let x : z ≡ pos (r .size) = r .is in let l = r .few in (omega (arith, ints, x, l), omega (arith, ints, x, l)))
-    , longitude-back)
+longitudes-come-back = (
+  (λ bs z e. let r = subst (InRange 12959999 false) e (longitude-ranged bs) in let x : z ≡ pos (r .size) = r .is in let l = r .few in (omega (arith, ints, x, l), omega (arith, ints, x, l))),
+  longitude-back,
+)
 
 -- ---- heights
 
@@ -211,6 +215,7 @@ height-range true z r = let x : z ≡ negℤ (pos (r .size)) = r .is in let l : 
 height-range false z r = let x : z ≡ pos (r .size) = r .is in let l : r .size ≤ 999999 = r .few in (omega (arith, ints, x, l), omega (arith, ints, x, l))
 
 pub heights-come-back : HeightsComeBack
-heights-come-back =
-    ( (λ bs z e. height-range (minus (unblank bs)) z (subst (InRange (cond (minus (unblank bs)) 99999 999999) (minus (unblank bs))) e (height-ranged (minus (unblank bs)) (tenths (unsigned (unblank bs))))))
-    , height-back)
+heights-come-back = (
+  (λ bs z e. height-range (minus (unblank bs)) z (subst (InRange (cond (minus (unblank bs)) 99999 999999) (minus (unblank bs))) e (height-ranged (minus (unblank bs)) (tenths (unsigned (unblank bs)))))),
+  height-back,
+)

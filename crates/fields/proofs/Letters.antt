@@ -97,9 +97,9 @@ kind-link : (bs : List ℕ) (x t : MatrixKind) (rest : Option MatrixKind) → co
 kind-link bs x t rest e next =
     ⊎-elim
     (λ y.
-        let z : Some x ≡ Some t = sym (cond-true (sameText bs (matrixKindText x)) (Some x) rest y) ∙ e in
-        let w : x ≡ t = cc in
-        same-is bs (matrixKindText x) y ∙ ap matrixKindText w)
+    let z : Some x ≡ Some t = sym (cond-true (sameText bs (matrixKindText x)) (Some x) rest y) ∙ e in
+    let w : x ≡ t = cc in
+    same-is bs (matrixKindText x) y ∙ ap matrixKindText w)
     (λ f. next (sym (cond-false (sameText bs (matrixKindText x)) (Some x) rest f) ∙ e))
     (cases-bool (sameText bs (matrixKindText x)))
 
@@ -112,8 +112,9 @@ kind-read Covariance = refl
 kind-read Information = refl
 
 pub codes-come-back : CodesComeBack
-codes-come-back =
-    ( (λ bs t. (technique-is bs t, λ e. ap readTechnique e ∙ technique-read t))
-    , (λ bs t. (constraint-is bs t, λ e. ap readConstraint e ∙ constraint-read t))
-    , (λ bs t. (contents-is bs t, λ e. ap readContents e ∙ contents-read t))
-    , (λ bs t. (kind-is bs t, λ e. ap readMatrixKind e ∙ kind-read t)))
+codes-come-back = (
+  (λ bs t. (technique-is bs t, λ e. ap readTechnique e ∙ technique-read t)),
+  (λ bs t. (constraint-is bs t, λ e. ap readConstraint e ∙ constraint-read t)),
+  (λ bs t. (contents-is bs t, λ e. ap readContents e ∙ contents-read t)),
+  (λ bs t. (kind-is bs t, λ e. ap readMatrixKind e ∙ kind-read t)),
+)

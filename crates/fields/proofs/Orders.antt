@@ -69,7 +69,7 @@ both Greater p e = absurd (subst Is-equal (sym e) tt)
 
 -- a total order of one part, and then of another
 pub then-order : {A B : Type 0} (c : A → A → Ordering) (d : B → B → Ordering) → TotalOrder c → TotalOrder d → (x y z : A) (u v w : B)
-  → thenBy (c x y) (d u v) ≡ Less → thenBy (c y z) (d v w) ≡ Less → thenBy (c x z) (d u w) ≡ Less
+    → thenBy (c x y) (d u v) ≡ Less → thenBy (c y z) (d v w) ≡ Less → thenBy (c x z) (d u w) ≡ Less
 then-order c d oc od x y z u v w = then-trans (c x y) (c y z) (c x z) (d u v) (d v w) (d u w) (oc .trans x y z) (λ e. ap (λ t. c t z) (oc .same x y e)) (λ e. ap (c x) (sym (oc .same y z e))) (od .trans u v w)
 
 lex-flip : (xs ys : List ℕ) → lex xs ys ≡ reversed (lex ys xs)

@@ -71,14 +71,15 @@ text-parts n bs t e =
     let test : Bool = leb 1 (length w) && (leb (length w) n && blank (afterWord u)) in
     ⊎-elim
     (λ y.
-        let p = and-parts (leb 1 (length w)) (leb (length w) n && blank (afterWord u)) y in
-        let q = and-parts (leb (length w) n) (blank (afterWord u)) (p .1) in
-        let f = unblank-split bs in
-        let b = blank-is (afterWord u) (q .1) in
-        ( w
-        , record { solid = word-solid u; some = leb-true 1 (length w) (p .0); fits = leb-true (length w) n (q .0) }
-        , sym (same-result (padded n w) t (sym (cond-true test (Ok (padded n w)) (Err WrongText) y) ∙ e))
-        , (f .0, b .0, f .1 ∙ ap (λ x. replicate (f .0) 32 ++ x) (sym (word-joined u) ∙ ap (λ x. w ++ x) (b .1)))))
+    let p = and-parts (leb 1 (length w)) (leb (length w) n && blank (afterWord u)) y in
+    let q = and-parts (leb (length w) n) (blank (afterWord u)) (p .1) in
+    let f = unblank-split bs in
+    let b = blank-is (afterWord u) (q .1) in (
+      w,
+      record { solid = word-solid u; some = leb-true 1 (length w) (p .0); fits = leb-true (length w) n (q .0) },
+      sym (same-result (padded n w) t (sym (cond-true test (Ok (padded n w)) (Err WrongText) y) ∙ e)),
+      (f .0, b .0, f .1 ∙ ap (λ x. replicate (f .0) 32 ++ x) (sym (word-joined u) ∙ ap (λ x. w ++ x) (b .1))),
+    ))
     (λ f. absurd (no-fault WrongText t (sym (cond-false test (Ok (padded n w)) (Err WrongText) f) ∙ e)))
     (cases-bool test)
 
@@ -88,9 +89,10 @@ texts-have-form = (text-form, text-parts)
 pub texts-come-back : TextsComeBack
 texts-come-back n bs t e =
     let k = text-parts n bs t e in
-    let w = k .0 in
-    ( ap length (k .2) ∙ length-padded n w (k .1 .fits)
-    , subst (λ x. readText n x ≡ Ok x) (sym (k .2)) (text-form 0 (n - length w) n w (k .1)))
+    let w = k .0 in (
+      ap length (k .2) ∙ length-padded n w (k .1 .fits),
+      subst (λ x. readText n x ≡ Ok x) (sym (k .2)) (text-form 0 (n - length w) n w (k .1)),
+    )
 
 -- ---- descriptions
 
@@ -124,8 +126,8 @@ description-form a b n w k =
     let bs : List ℕ = replicate a 32 ++ (w ++ replicate b 32) in
     ⊎-elim
     (λ u.
-        let l : filled (unblank bs) ≡ length w = ap filled u ∙ filled-of w b (k .ended) in
-        description-yes n bs w l (ap (λ x. take (filled (unblank bs)) x) u ∙ (ap (λ x. take x (w ++ replicate b 32)) l ∙ take-at w (replicate b 32) (length w) refl)) (k .fits))
+    let l : filled (unblank bs) ≡ length w = ap filled u ∙ filled-of w b (k .ended) in
+    description-yes n bs w l (ap (λ x. take (filled (unblank bs)) x) u ∙ (ap (λ x. take x (w ++ replicate b 32)) l ∙ take-at w (replicate b 32) (length w) refl)) (k .fits))
     (λ z. description-yes n bs w (ap filled (z .1) ∙ ap length (sym (z .0))) (ap (λ x. take (filled x) x) (z .1) ∙ sym (z .0)) (k .fits))
     (phrase-front a b w (k .begun))
 
@@ -153,21 +155,22 @@ fill [] = record { after = 0; ended = tt; is = refl }
 fill (c ∷ cs) =
     ⊎-elim
     (λ y.
-        let b = blank-is (c ∷ cs) y in
-        let z : filled (c ∷ cs) ≡ 0 = cond-true _ _ _ y in
-        record { after = b .0; ended = subst (λ k. Ended (take k (c ∷ cs))) (sym z) tt; is = b .1 ∙ ap (λ k. take k (c ∷ cs) ++ replicate (b .0) 32) (sym z) })
+    let b = blank-is (c ∷ cs) y in
+    let z : filled (c ∷ cs) ≡ 0 = cond-true _ _ _ y in
+    record { after = b .0; ended = subst (λ k. Ended (take k (c ∷ cs))) (sym z) tt; is = b .1 ∙ ap (λ k. take k (c ∷ cs) ++ replicate (b .0) 32) (sym z) })
     (λ f.
-        let r = fill cs in
-        let w : List ℕ = take (filled cs) cs in
-        let z : filled (c ∷ cs) ≡ suc (filled cs) = cond-false _ _ _ f ∙ omega arith in
-        let h : w ≡ [] → c ≡ 32 → ⊥ = λ e g.
-            let x : blank (c ∷ cs) ≡ blank cs = ap (λ k. blank (k ∷ cs)) g in
-            let y : blank cs ≡ true = ap blank (r .is ∙ ap (λ k. k ++ replicate (r .after) 32) e) ∙ blank-blanks (r .after) in
-            true≢false (sym (x ∙ y) ∙ f) in
-        record {
-            after = r .after;
-            ended = subst (λ k. Ended (take k (c ∷ cs))) (sym z) (ended-more c w (r .ended) h);
-            is = ap (λ x. c ∷ x) (r .is) ∙ ap (λ k. take k (c ∷ cs) ++ replicate (r .after) 32) (sym z) })
+    let r = fill cs in
+    let w : List ℕ = take (filled cs) cs in
+    let z : filled (c ∷ cs) ≡ suc (filled cs) = cond-false _ _ _ f ∙ omega arith in
+    let h : w ≡ [] → c ≡ 32 → ⊥ = λ e g.
+    let x : blank (c ∷ cs) ≡ blank cs = ap (λ k. blank (k ∷ cs)) g in
+    let y : blank cs ≡ true = ap blank (r .is ∙ ap (λ k. k ++ replicate (r .after) 32) e) ∙ blank-blanks (r .after) in
+    true≢false (sym (x ∙ y) ∙ f) in
+    record {
+      after = r .after;
+      ended = subst (λ k. Ended (take k (c ∷ cs))) (sym z) (ended-more c w (r .ended) h);
+      is = ap (λ x. c ∷ x) (r .is) ∙ ap (λ k. take k (c ∷ cs) ++ replicate (r .after) 32) (sym z);
+    })
     (cases-bool (blank (c ∷ cs)))
 
 description-parts : (n : ℕ) (bs t : List ℕ) → readDescription n bs ≡ Ok t → (w : List ℕ) × Phrase n w × (t ≡ padded n w) × ((a : ℕ) × (b : ℕ) × (bs ≡ replicate a 32 ++ (w ++ replicate b 32)))
@@ -176,13 +179,14 @@ description-parts n bs t e =
     let w = trimmed bs in
     ⊎-elim
     (λ y.
-        let l = leb-true (filled u) n y in
-        let f = unblank-split bs in
-        let r = fill u in
-        ( w
-        , record { begun = take-begun (filled u) u (unblank-begun bs); ended = r .ended; fits = omega (arith, l, length-take-le (filled u) u (filled-le u)) }
-        , sym (same-result (padded n w) t (sym (cond-true (leb (filled u) n) (Ok (padded n w)) (Err WrongText) y) ∙ e))
-        , (f .0, r .after, f .1 ∙ ap (λ x. replicate (f .0) 32 ++ x) (r .is))))
+    let l = leb-true (filled u) n y in
+    let f = unblank-split bs in
+    let r = fill u in (
+      w,
+      record { begun = take-begun (filled u) u (unblank-begun bs); ended = r .ended; fits = omega (arith, l, length-take-le (filled u) u (filled-le u)) },
+      sym (same-result (padded n w) t (sym (cond-true (leb (filled u) n) (Ok (padded n w)) (Err WrongText) y) ∙ e)),
+      (f .0, r .after, f .1 ∙ ap (λ x. replicate (f .0) 32 ++ x) (r .is)),
+    ))
     (λ f. absurd (no-fault WrongText t (sym (cond-false (leb (filled u) n) (Ok (padded n w)) (Err WrongText) f) ∙ e)))
     (cases-bool (leb (filled u) n))
 
@@ -192,6 +196,7 @@ descriptions-have-form = (description-form, description-parts)
 pub descriptions-come-back : DescriptionsComeBack
 descriptions-come-back n bs t e =
     let k = description-parts n bs t e in
-    let w = k .0 in
-    ( ap length (k .2) ∙ length-padded n w (k .1 .fits)
-    , subst (λ x. readDescription n x ≡ Ok x) (sym (k .2)) (description-form 0 (n - length w) n w (k .1)))
+    let w = k .0 in (
+      ap length (k .2) ∙ length-padded n w (k .1 .fits),
+      subst (λ x. readDescription n x ≡ Ok x) (sym (k .2)) (description-form 0 (n - length w) n w (k .1)),
+    )

@@ -87,12 +87,12 @@ named name [] t e = absurd (none t e)
 named name (u ∷ us) t e =
     ⊎-elim
     (λ y.
-        let z : Some u ≡ Some t = sym (cond-true (sameText name (u .name)) (Some u) (firstNamed name us) y) ∙ e in
-        let w : u ≡ t = cc in
-        (sym (ap (λ (v : ParameterType). v .name) w) ∙ sym (same-is name (u .name) y), (0, omega arith, w)))
+    let z : Some u ≡ Some t = sym (cond-true (sameText name (u .name)) (Some u) (firstNamed name us) y) ∙ e in
+    let w : u ≡ t = cc in
+    (sym (ap (λ (v : ParameterType). v .name) w) ∙ sym (same-is name (u .name) y), (0, omega arith, w)))
     (λ f.
-        let r = named name us t (sym (cond-false (sameText name (u .name)) (Some u) (firstNamed name us) f) ∙ e) in
-        (r .0, (suc (r .1 .0), omega (arith, r .1 .1), r .1 .2)))
+    let r = named name us t (sym (cond-false (sameText name (u .name)) (Some u) (firstNamed name us) f) ∙ e) in
+    (r .0, (suc (r .1 .0), omega (arith, r .1 .1), r .1 .2)))
     (cases-bool (sameText name (u .name)))
 
 -- whether a text is read as itself

@@ -30,14 +30,14 @@ word-is [] = (refl, refl)
 word-is (c ∷ cs) =
     ⊎-elim
     (λ y.
-        let w : word (c ∷ cs) ≡ [] = cond-true _ _ _ y in
-        let a : afterWord (c ∷ cs) ≡ c ∷ cs = cond-true _ _ _ y in
-        (ap (λ u. take (length u) (c ∷ cs)) w ∙ sym w, ap (λ u. drop (length u) (c ∷ cs)) w ∙ sym a))
+    let w : word (c ∷ cs) ≡ [] = cond-true _ _ _ y in
+    let a : afterWord (c ∷ cs) ≡ c ∷ cs = cond-true _ _ _ y in
+    (ap (λ u. take (length u) (c ∷ cs)) w ∙ sym w, ap (λ u. drop (length u) (c ∷ cs)) w ∙ sym a))
     (λ n.
-        let w : word (c ∷ cs) ≡ c ∷ word cs = cond-false _ _ _ n in
-        let a : afterWord (c ∷ cs) ≡ afterWord cs = cond-false _ _ _ n in
-        let r = word-is cs in
-        (ap (λ u. take (length u) (c ∷ cs)) w ∙ (ap (λ u. c ∷ u) (r .0) ∙ sym w), ap (λ u. drop (length u) (c ∷ cs)) w ∙ (r .1 ∙ sym a)))
+    let w : word (c ∷ cs) ≡ c ∷ word cs = cond-false _ _ _ n in
+    let a : afterWord (c ∷ cs) ≡ afterWord cs = cond-false _ _ _ n in
+    let r = word-is cs in
+    (ap (λ u. take (length u) (c ∷ cs)) w ∙ (ap (λ u. c ∷ u) (r .0) ∙ sym w), ap (λ u. drop (length u) (c ∷ cs)) w ∙ (r .1 ∙ sym a)))
     (cases-bool (eqb c 32))
 
 pub text-yes : (n : ℕ) (bs : List ℕ) → 1 ≤ length (word (unblank bs)) → length (word (unblank bs)) ≤ n → blank (afterWord (unblank bs)) ≡ true → readText n bs ≡ Ok (padded n (word (unblank bs)))

@@ -39,8 +39,8 @@ techniqueLetter Vlbi = 82
 abbrev pub techniqueOf : Option ℕ → Result Technique Fault
 techniqueOf None = Err WrongText
 techniqueOf (Some c) =
-  cond (eqb c 67) (Ok Combined) (cond (eqb c 68) (Ok Doris) (cond (eqb c 76) (Ok SatelliteLaser)
-  (cond (eqb c 77) (Ok LunarLaser) (cond (eqb c 80) (Ok Gnss) (cond (eqb c 82) (Ok Vlbi) (Err WrongText))))))
+    cond (eqb c 67) (Ok Combined) (cond (eqb c 68) (Ok Doris) (cond (eqb c 76) (Ok SatelliteLaser)
+    (cond (eqb c 77) (Ok LunarLaser) (cond (eqb c 80) (Ok Gnss) (cond (eqb c 82) (Ok Vlbi) (Err WrongText))))))
 
 abbrev pub readTechnique : List ℕ → Result Technique Fault
 readTechnique bs = techniqueOf (letterOf bs)
@@ -75,8 +75,8 @@ placeLetter (Some c) = contentsLetter c
 abbrev pub contentsOf : Option ℕ → Result (Option Contents) Fault
 contentsOf None = Err WrongText
 contentsOf (Some c) =
-  cond (eqb c 32) (Ok None) (cond (eqb c 83) (Ok (Some Stations)) (cond (eqb c 79) (Ok (Some Orbits)) (cond (eqb c 69) (Ok (Some EarthOrientation))
-  (cond (eqb c 84) (Ok (Some Troposphere)) (cond (eqb c 67) (Ok (Some CelestialFrame)) (cond (eqb c 65) (Ok (Some Antennas)) (Err WrongText)))))))
+    cond (eqb c 32) (Ok None) (cond (eqb c 83) (Ok (Some Stations)) (cond (eqb c 79) (Ok (Some Orbits)) (cond (eqb c 69) (Ok (Some EarthOrientation))
+    (cond (eqb c 84) (Ok (Some Troposphere)) (cond (eqb c 67) (Ok (Some CelestialFrame)) (cond (eqb c 65) (Ok (Some Antennas)) (Err WrongText)))))))
 
 abbrev pub readContents : List ℕ → Result (Option Contents) Fault
 readContents bs = contentsOf (letterOf bs)
@@ -88,11 +88,11 @@ matrixKindText Information = codes "INFO"
 
 abbrev pub readMatrixKind : List ℕ → Option MatrixKind
 readMatrixKind bs =
-  cond (sameText bs (codes "CORR")) (Some Correlation) (cond (sameText bs (codes "COVA")) (Some Covariance) (cond (sameText bs (codes "INFO")) (Some Information) None))
+    cond (sameText bs (codes "CORR")) (Some Correlation) (cond (sameText bs (codes "COVA")) (Some Covariance) (cond (sameText bs (codes "INFO")) (Some Information) None))
 
 -- a code is read exactly from its own letter
 abbrev pub CodesComeBack : Type 0
 CodesComeBack = ((bs : List ℕ) (t : Technique) → (readTechnique bs ≡ Ok t → bs ≡ techniqueLetter t ∷ []) × (bs ≡ techniqueLetter t ∷ [] → readTechnique bs ≡ Ok t))
-  × ((bs : List ℕ) (c : Constraint) → (readConstraint bs ≡ Ok c → bs ≡ constraintDigit c ∷ []) × (bs ≡ constraintDigit c ∷ [] → readConstraint bs ≡ Ok c))
-  × ((bs : List ℕ) (p : Option Contents) → (readContents bs ≡ Ok p → bs ≡ placeLetter p ∷ []) × (bs ≡ placeLetter p ∷ [] → readContents bs ≡ Ok p))
-  × ((bs : List ℕ) (k : MatrixKind) → (readMatrixKind bs ≡ Some k → bs ≡ matrixKindText k) × (bs ≡ matrixKindText k → readMatrixKind bs ≡ Some k))
+    × ((bs : List ℕ) (c : Constraint) → (readConstraint bs ≡ Ok c → bs ≡ constraintDigit c ∷ []) × (bs ≡ constraintDigit c ∷ [] → readConstraint bs ≡ Ok c))
+    × ((bs : List ℕ) (p : Option Contents) → (readContents bs ≡ Ok p → bs ≡ placeLetter p ∷ []) × (bs ≡ placeLetter p ∷ [] → readContents bs ≡ Ok p))
+    × ((bs : List ℕ) (k : MatrixKind) → (readMatrixKind bs ≡ Some k → bs ≡ matrixKindText k) × (bs ≡ matrixKindText k → readMatrixKind bs ≡ Some k))

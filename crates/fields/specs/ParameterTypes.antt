@@ -29,19 +29,19 @@ needsStation name = begins (codes "STA") name || (begins (codes "VEL") name || (
 abbrev pub group : List ℕ → Contents → List (List ℕ) → List ParameterType
 group unit letter [] = []
 group unit letter (name ∷ names) =
-  record { name = padded 6 name; unit = padded 4 unit; contents = letter; stationed = needsStation name } ∷ group unit letter names
+    record { name = padded 6 name; unit = padded 4 unit; contents = letter; stationed = needsStation name } ∷ group unit letter names
 
 unfoldable pub types : List ParameterType
 types =
-  group (codes "m") Stations (codes "STAX" ∷ codes "STAY" ∷ codes "STAZ" ∷ codes "XGC" ∷ codes "YGC" ∷ codes "ZGC" ∷ []) ++ (
-  group (codes "m/y") Stations (codes "VELX" ∷ codes "VELY" ∷ codes "VELZ" ∷ []) ++ (
-  group (codes "m") Troposphere (codes "TROTOT" ∷ codes "TRODRY" ∷ codes "TROWET" ∷ codes "TGNTOT" ∷ codes "TGNDRY" ∷ codes "TGNWET" ∷ codes "TGETOT" ∷ codes "TGEDRY" ∷ codes "TGEWET" ∷ []) ++ (
-  group (codes "m") Antennas (codes "AXI_OF" ∷ codes "SATA_X" ∷ codes "SATA_Y" ∷ codes "SATA_Z" ∷ []) ++ (
-  group (codes "ms") EarthOrientation (codes "LOD" ∷ codes "UT" ∷ []) ++ (
-  group (codes "mas") EarthOrientation (codes "XPO" ∷ codes "YPO" ∷ codes "NUT_LN" ∷ codes "NUT_OB" ∷ codes "NUT_X" ∷ codes "NUT_Y" ∷ []) ++ (
-  group (codes "ma/d") EarthOrientation (codes "XPOR" ∷ codes "YPOR" ∷ codes "NUTRLN" ∷ codes "NUTROB" ∷ codes "NUTR_X" ∷ codes "NUTR_Y" ∷ []) ++ (
-  group (codes "rad") CelestialFrame (codes "RS_RA" ∷ codes "RS_DE" ∷ codes "RS_PL" ∷ []) ++ (
-  group (codes "rd/y") CelestialFrame (codes "RS_RAR" ∷ codes "RS_DER" ∷ [])))))))))
+    group (codes "m") Stations (codes "STAX" ∷ codes "STAY" ∷ codes "STAZ" ∷ codes "XGC" ∷ codes "YGC" ∷ codes "ZGC" ∷ []) ++ (
+    group (codes "m/y") Stations (codes "VELX" ∷ codes "VELY" ∷ codes "VELZ" ∷ []) ++ (
+    group (codes "m") Troposphere (codes "TROTOT" ∷ codes "TRODRY" ∷ codes "TROWET" ∷ codes "TGNTOT" ∷ codes "TGNDRY" ∷ codes "TGNWET" ∷ codes "TGETOT" ∷ codes "TGEDRY" ∷ codes "TGEWET" ∷ []) ++ (
+    group (codes "m") Antennas (codes "AXI_OF" ∷ codes "SATA_X" ∷ codes "SATA_Y" ∷ codes "SATA_Z" ∷ []) ++ (
+    group (codes "ms") EarthOrientation (codes "LOD" ∷ codes "UT" ∷ []) ++ (
+    group (codes "mas") EarthOrientation (codes "XPO" ∷ codes "YPO" ∷ codes "NUT_LN" ∷ codes "NUT_OB" ∷ codes "NUT_X" ∷ codes "NUT_Y" ∷ []) ++ (
+    group (codes "ma/d") EarthOrientation (codes "XPOR" ∷ codes "YPOR" ∷ codes "NUTRLN" ∷ codes "NUTROB" ∷ codes "NUTR_X" ∷ codes "NUTR_Y" ∷ []) ++ (
+    group (codes "rad") CelestialFrame (codes "RS_RA" ∷ codes "RS_DE" ∷ codes "RS_PL" ∷ []) ++ (
+    group (codes "rd/y") CelestialFrame (codes "RS_RAR" ∷ codes "RS_DER" ∷ [])))))))))
 
 -- what stands past the table
 abbrev pub noType : ParameterType
@@ -65,7 +65,7 @@ checkType name unit = inUnit unit (typeNamed name)
 -- the types of the table are found by their names, each with its unit
 abbrev pub TypesComeBack : Type 0
 TypesComeBack = (i : ℕ) → i < length types → (typeNamed (getD types i noType .name) ≡ Some (getD types i noType))
-  × (checkType (getD types i noType .name) (getD types i noType .unit) ≡ Ok (getD types i noType))
+    × (checkType (getD types i noType .name) (getD types i noType .unit) ≡ Ok (getD types i noType))
 
 -- a type that is found has the name that was sought and is in the table
 abbrev pub TypesAreNamed : Type 0

@@ -29,7 +29,7 @@ padded n w = w ++ replicate (n - length w) 32
 -- one word among blanks, kept on the left of n bytes
 abbrev pub readText : ℕ → List ℕ → Result (List ℕ) Fault
 readText n bs = cond (leb 1 (length (word (unblank bs))) && (leb (length (word (unblank bs))) n && blank (afterWord (unblank bs))))
-  (Ok (padded n (word (unblank bs)))) (Err WrongText)
+    (Ok (padded n (word (unblank bs)))) (Err WrongText)
 
 -- how many bytes there are up to the last that is not blank
 abbrev pub filled : List ℕ → ℕ
@@ -61,7 +61,7 @@ pub record Word (n : ℕ) (w : List ℕ) : Type 0 where
 -- a text is one word among blanks, and kept as that word and blanks up to n bytes
 abbrev pub TextsHaveForm : Type 0
 TextsHaveForm = ((a b n : ℕ) (w : List ℕ) → Word n w → readText n (replicate a 32 ++ (w ++ replicate b 32)) ≡ Ok (padded n w))
-  × ((n : ℕ) (bs t : List ℕ) → readText n bs ≡ Ok t → (w : List ℕ) × Word n w × (t ≡ padded n w) × ((a : ℕ) × (b : ℕ) × (bs ≡ replicate a 32 ++ (w ++ replicate b 32))))
+    × ((n : ℕ) (bs t : List ℕ) → readText n bs ≡ Ok t → (w : List ℕ) × Word n w × (t ≡ padded n w) × ((a : ℕ) × (b : ℕ) × (bs ≡ replicate a 32 ++ (w ++ replicate b 32))))
 
 -- what is kept of a text has n bytes, and is read as it was
 abbrev pub TextsComeBack : Type 0
@@ -85,7 +85,7 @@ pub record Phrase (n : ℕ) (w : List ℕ) : Type 0 where
 -- a description is anything among blanks
 abbrev pub DescriptionsHaveForm : Type 0
 DescriptionsHaveForm = ((a b n : ℕ) (w : List ℕ) → Phrase n w → readDescription n (replicate a 32 ++ (w ++ replicate b 32)) ≡ Ok (padded n w))
-  × ((n : ℕ) (bs t : List ℕ) → readDescription n bs ≡ Ok t → (w : List ℕ) × Phrase n w × (t ≡ padded n w) × ((a : ℕ) × (b : ℕ) × (bs ≡ replicate a 32 ++ (w ++ replicate b 32))))
+    × ((n : ℕ) (bs t : List ℕ) → readDescription n bs ≡ Ok t → (w : List ℕ) × Phrase n w × (t ≡ padded n w) × ((a : ℕ) × (b : ℕ) × (bs ≡ replicate a 32 ++ (w ++ replicate b 32))))
 
 abbrev pub DescriptionsComeBack : Type 0
 DescriptionsComeBack = (n : ℕ) (bs t : List ℕ) → readDescription n bs ≡ Ok t → (length t ≡ n) × (readDescription n t ≡ Ok t)

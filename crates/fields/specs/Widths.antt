@@ -11,5 +11,5 @@ use Rattle.fields.specs.declared.epochs.Moment.{Moment}
 
 abbrev pub WidthsAreExact : Type 0
 WidthsAreExact = ((e : Epoch) → length (epochText e) ≡ 12) × ((m : Moment) → length (momentText m) ≡ 12)
-  × ((z : ℤ) → length (angleText z) ≡ 11) × ((z : ℤ) → length (heightText z) ≡ 7)
-  × ((n : ℕ) → length (indexText n) ≡ 5) × ((n : ℕ) → length (countText n) ≡ 5)
+    × ((z : ℤ) → length (angleText z) ≡ 11) × ((z : ℤ) → length (heightText z) ≡ 7)
+    × ((n : ℕ) → length (indexText n) ≡ 5) × ((n : ℕ) → length (countText n) ≡ 5)

@@ -38,7 +38,11 @@ fn epoch_at(y: u32, d: u32, s: u32) -> Result<Epoch, Fault>
     if d < 1 || d > days || s > 86399 {
         return Err(Fault::WrongEpoch);
     }
-    Ok(Epoch::At(Moment { year: year as u16, day: d as u16, second: s }))
+    Ok(Epoch::At(Moment {
+        year: year as u16,
+        day: d as u16,
+        second: s,
+    }))
 }
 
 pub fn read_epoch(text: &[u8]) -> Result<Epoch, Fault>
@@ -53,7 +57,11 @@ pub fn read_epoch(text: &[u8]) -> Result<Epoch, Fault>
     if text[6] != b':' {
         return Err(Fault::WrongEpoch);
     }
-    match (read_numeral(&text[0..2]), read_numeral(&text[3..6]), read_numeral(&text[7..12])) {
+    match (
+        read_numeral(&text[0..2]),
+        read_numeral(&text[3..6]),
+        read_numeral(&text[7..12]),
+    ) {
         (Some(y), Some(d), Some(s)) => epoch_at(y, d, s),
         _ => Err(Fault::WrongEpoch),
     }

@@ -81,7 +81,11 @@ pub fn read_description<const N: usize>(text: &[u8]) -> Result<[u8; N], Fault>
 pub fn check_blank(columns: &[u8]) -> Result<(), Fault>
     ensures { λ r. ⌜ r ≡ checkBlank (now (columns .entry)) ⌝ }
 {
-    if is_blank(columns) { Ok(()) } else { Err(Fault::WrongText) }
+    if is_blank(columns) {
+        Ok(())
+    } else {
+        Err(Fault::WrongText)
+    }
 }
 
 // Compares two texts byte by byte.
@@ -99,7 +103,11 @@ pub fn compare_text(a: &[u8], b: &[u8]) -> Ordering
             return Ordering::Greater;
         }
     }
-    if a.len() < b.len() { Ordering::Less } else { Ordering::Equal }
+    if a.len() < b.len() {
+        Ordering::Less
+    } else {
+        Ordering::Equal
+    }
 }
 
 // Whether two texts are the same.

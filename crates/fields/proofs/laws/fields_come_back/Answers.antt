@@ -8,5 +8,14 @@ use Rattle.fields.proofs.laws.fields_come_back.Needs as need
 
 pub returns : need.returns
 returns c = record {
-    texts = texts-come-back; descriptions = descriptions-come-back; epochs = epochs-come-back; moments = moments-come-back; counts = counts-come-back;
-    longitudes = longitudes-come-back; latitudes = latitudes-come-back; heights = heights-come-back; codes = codes-come-back; widths = widths-are-exact }
+  texts = texts-come-back;
+  descriptions = descriptions-come-back;
+  epochs = epochs-come-back;
+  moments = moments-come-back;
+  counts = counts-come-back;
+  longitudes = longitudes-come-back;
+  latitudes = latitudes-come-back;
+  heights = heights-come-back;
+  codes = codes-come-back;
+  widths = widths-are-exact;
+}
