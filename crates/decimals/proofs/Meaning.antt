@@ -19,13 +19,11 @@ use Rattle.decimals.specs.declared.number.Number.{Number}
 use Rattle.decimals.specs.declared.number.Deviation.{Deviation}
 use Rattle.refusals.specs.declared.Fault.{Fault}
 use Rattle.refusals.specs.declared.Fault.the-variants.{WrongNumber, NumberOutOfRange}
+use Rattle.decimals.proofs.Faults.{no-fault}
 use Rattle.decimals.proofs.Reading.{readAt-long, readAt-said}
 use Rattle.decimals.proofs.Bounds.{Low, said-low}
 use Rattle.decimals.proofs.Values.{Read, read-value, same-from-values, values-from-same, value-read, unique}
 use Rattle.decimals.proofs.RoundTrip.{length-text, numberAs, number-back, deviation-back}
-
-no-fault : {A : Type 0} (e : Fault) (a : A) → _≡_ {A = Result A Fault} (Err e) (Ok a) → ⊥
-no-fault e a x = let z : _≡_ {A = ℕ} 0 1 = cc in omega arith
 
 -- a text that is read is short
 short : (k : ℕ) (bs : List ℕ) (n : Number) → readAt (10 ^ (k + 1)) bs ≡ Ok n → length bs ≤ 21

@@ -16,6 +16,7 @@ use Rattle.std.proofs.shelf.Tests.{cond-true, cond-false, cases-bool, eqb-true,
 use Rattle.decimals.specs.Scan.{unblank, minus, unsigned, isDigit, digitsFrom, count, past}
 use Rattle.decimals.specs.Number.{Digits, Said, afterWhole, digitsOfText, blank, exponent, exponentDigits, signed, said, saidBy}
 use Rattle.decimals.specs.Grammar.{OnlyDigits, Sign, Parts, Mantissa, Power, NoPower, WellFormed, spelled, meant, NumbersHaveForm}
+use Rattle.decimals.proofs.Faults.{nothing}
 use Rattle.decimals.proofs.Forms.{exponent-yes}
 use Rattle.decimals.proofs.Reading.{saidBy-some}
 use Rattle.decimals.proofs.Runs.{run-count, run-past, run-value, digit-front}
@@ -239,9 +240,6 @@ front-from t v r (c ∷ cs) e =
 
 front-split : (t : List ℕ) → Front t (digitsOfText t)
 front-split t = front-from t (digitsFrom 0 t) (run-split t) (past t) refl
-
-nothing : {A : Type 0} (a : A) → _≡_ {A = Option A} None (Some a) → ⊥
-nothing a e = let z : _≡_ {A = ℕ} 0 1 = cc in omega arith
 
 -- what an exponent or blanks are made of
 pub record Back (t : List ℕ) : Type 0 where

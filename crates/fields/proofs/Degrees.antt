@@ -30,7 +30,7 @@ use Rattle.decimals.proofs.Fixed.{digit-of, length-fixed}
 use Rattle.decimals.proofs.Runs.{Below, Justified, Shown, right-shown, right-numeral, justified-read, justified-plain, numeral-run, numeral-fixed, numeral-below, tenths-run, fixed-number, only-fixed, digit-front, length-justified}
 use Rattle.fields.specs.Count.{orWrongNumber, readCount, indexText, countText, CountsComeBack}
 use Rattle.fields.specs.Angle.{columns, spaced, angle, angleOf, angleRest, readLongitude, readLatitude, height, heightOf, readHeight, angleText, heightText, LongitudesComeBack, LatitudesComeBack, HeightsComeBack}
-use Rattle.fields.proofs.Faults.{no-fault, same-result}
+use Rattle.decimals.proofs.Faults.{no-fault, same-result}
 
 -- ---- counts
 

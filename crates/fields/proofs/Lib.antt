@@ -1,9 +1,3 @@
-pub mod Faults
-pub mod Words
-pub mod Orders
 pub mod Stamps
-pub mod Letters
-pub mod TypeTable
-pub mod Phrases
 pub mod Degrees
 pub mod Columns

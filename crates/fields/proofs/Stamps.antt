@@ -29,9 +29,9 @@ use Rattle.fields.specs.Epoch.{fullYear, daysIn, epochAt, epochOf, readEpoch, 
 use Rattle.fields.specs.declared.epochs.Epoch.{Epoch}
 use Rattle.fields.specs.declared.epochs.Epoch.the-variants.{Open, At}
 use Rattle.fields.specs.declared.epochs.Moment.{Moment}
-use Rattle.fields.specs.Order.{TotalOrder}
-use Rattle.fields.proofs.Faults.{no-fault}
-use Rattle.fields.proofs.Orders.{then-flip, then-trans, both, rank-flip, rank-trans, rank-same, rank-less, rank-equal, rank-greater, not-less, not-equal}
+use Rattle.codes.specs.Order.{TotalOrder}
+use Rattle.decimals.proofs.Faults.{no-fault}
+use Rattle.codes.proofs.Comparing.{then-flip, then-trans, both, rank-flip, rank-trans, rank-same, rank-less, rank-equal, rank-greater, not-less, not-equal}
 
 -- whether the text has twelve bytes, with colons where they belong
 abbrev pub dotted : List ℕ → Bool

@@ -17,7 +17,7 @@ use Rattle.decimals.specs.Numeral.{numeral}
 use Rattle.decimals.specs.Write.{fixed}
 use Rattle.refusals.specs.declared.Fault.{Fault}
 use Rattle.refusals.specs.declared.Fault.the-variants.{WrongEpoch}
-use Rattle.fields.specs.Order.{TotalOrder}
+use Rattle.codes.specs.Order.{TotalOrder}
 use Rattle.fields.specs.declared.epochs.Epoch.{Epoch}
 use Rattle.fields.specs.declared.epochs.Epoch.the-variants.{Open, At}
 use Rattle.fields.specs.declared.epochs.Moment.{Moment}

@@ -2,9 +2,9 @@
 ghost use mathlib.Core.Path.{_≡_};
 ghost use Prim.Native.Nat.{_≤_, _<_, _^_};
 ghost use lib.ListN.{length};
-ghost use Rattle.std.specs.Keys.{rank};
-ghost use Rattle.std.specs.Orderings.{thenBy};
 ghost use Rattle.fields.specs.Epoch.{epochAt, readEpoch, readMoment, stamp, epochText, momentText, momentOrder, epochOrder};
+use codes::orders::compare_numbers;
+use codes::orders::then_by;
 use decimals::numerals::read_numeral;
 use decimals::writes::put_digits;
 use refusals::Fault;
@@ -103,35 +103,13 @@ pub fn write_epoch(e: &Epoch) -> [u8; 12]
     }
 }
 
-fn compare_numbers(a: u32, b: u32) -> Ordering
-    ensures { λ o. ⌜ o ≡ rank a b ⌝ }
-{
-    if a < b {
-        Ordering::Less
-    } else if a == b {
-        Ordering::Equal
-    } else {
-        Ordering::Greater
-    }
-}
-
-// The first answer, or the second where the first is of equals.
-pub fn next(first: Ordering, second: Ordering) -> Ordering
-    ensures { λ o. ⌜ o ≡ thenBy first second ⌝ }
-{
-    match first {
-        Ordering::Equal => second,
-        other => other,
-    }
-}
-
 pub fn compare_moments(a: &Moment, b: &Moment) -> Ordering
     ensures { λ o. ⌜ o ≡ momentOrder (now (a .entry)) (now (b .entry)) ⌝ }
 {
     let year = compare_numbers(a.year as u32, b.year as u32);
     let day = compare_numbers(a.day as u32, b.day as u32);
     let second = compare_numbers(a.second, b.second);
-    next(year, next(day, second))
+    then_by(year, then_by(day, second))
 }
 
 // Open comes first, then the order of time.
