@@ -5,5 +5,11 @@ use Rattle.fields.proofs.laws.fields_come_back.Needs as need
 
 pub returns : need.returns
 returns c = record {
-    epochs = epochs-come-back; moments = moments-come-back; counts = counts-come-back;
-    longitudes = longitudes-come-back; latitudes = latitudes-come-back; heights = heights-come-back; widths = widths-are-exact }
+  epochs = epochs-come-back;
+  moments = moments-come-back;
+  counts = counts-come-back;
+  longitudes = longitudes-come-back;
+  latitudes = latitudes-come-back;
+  heights = heights-come-back;
+  widths = widths-are-exact;
+}
