@@ -29,19 +29,3 @@ scaled-fits unit s e = cond-false _ _ _ (ne-eqb (s .value) 0 e)
 
 pub fitted-yes : (neg : Bool) (a b : ℕ) (q : ℤ) → a % b ≡ 0 → ltZ q (negsuc 98) ≡ false → ltZ (pos 99) q ≡ false → fitted neg a b q ≡ Ok (record { negative = neg; mantissa = a / b; exponent = q })
 fitted-yes neg a b q m l h = cond-true _ _ _ (and-from (eqb (a % b) 0) (inRange q) (eq-eqb (a % b) 0 m) (grind (arith, ints)))
-
-pub fitted-part : (neg : Bool) (a b : ℕ) (q : ℤ) → (a % b ≡ 0 → ⊥) → fitted neg a b q ≡ Err NumberOutOfRange
-fitted-part neg a b q m = cond-false _ _ _ (and-left (eqb (a % b) 0) (inRange q) (ne-eqb (a % b) 0 m))
-
-pub fitted-low : (neg : Bool) (a b : ℕ) (q : ℤ) → ltZ q (negsuc 98) ≡ true → fitted neg a b q ≡ Err NumberOutOfRange
-fitted-low neg a b q h = cond-false _ _ _ (and-right (eqb (a % b) 0) (inRange q) (grind (arith, ints)))
-
-pub fitted-high : (neg : Bool) (a b : ℕ) (q : ℤ) → ltZ (pos 99) q ≡ true → fitted neg a b q ≡ Err NumberOutOfRange
-fitted-high neg a b q h = cond-false _ _ _ (and-right (eqb (a % b) 0) (inRange q) (grind (arith, ints)))
-
--- the same number as the code computes it
-abbrev pub topCode : ℤ → ℕ → ℤ
-topCode p n = toZ w32 (ofZ w32 (toZ w32 (ofZ w32 (toZ w32 (ofZ w32 p) +ℤ toZ w32 n)) -ℤ pos 1))
-
-pub top-is : (p : ℤ) (n : ℕ) → negsuc 200 ≤ℤ p → p ≤ℤ pos 200 → n ≤ 21 → topCode p n ≡ (p +ℤ pos n) -ℤ pos 1
-top-is p n a b h = omega (arith, ints)

@@ -1,13 +1,13 @@
 // Decimal numbers, read.
 ghost use mathlib.Core.Path.{_≡_};
 ghost use mathlib.Core.Bool.{true, false};
-ghost use Prim.Native.Nat.{ℕ, _+_, _*_, _^_, _≤_, _<_};
+ghost use Prim.Native.Nat.{ℕ, _+_, _*_, _/_, _^_, _≤_, _<_};
 ghost use lib.ListN.{length};
-ghost use lib.IntN.{pos, negsuc, _-ℤ_};
+ghost use lib.IntN.{pos, negsuc, _+ℤ_, _-ℤ_};
 ghost use lib.Signed.{_≤ℤ_};
 ghost use Rattle.std.specs.Options.{Cases as BySome};
 ghost use Rattle.decimals.specs.Scan.{unblank};
-ghost use Rattle.decimals.specs.Number.{digitsOfText, blank, exponent, exponentDigits, size, scaled, readAt, readNumber, readDeviation};
+ghost use Rattle.decimals.specs.Number.{digitsOfText, blank, exponent, exponentDigits, fitted, size, scaled, readAt, readNumber, readDeviation};
 use crate::number::Deviation;
 use crate::number::Number;
 use crate::scan::digits;
@@ -72,6 +72,30 @@ fn size_of(value: u128) -> Size
     Size { count, unit }
 }
 
+// The number that is ± all / place × 10^exponent, where that is a whole mantissa and the exponent is in range.
+fn fit(negative: bool, all: u128, place: u128, exponent: i32) -> Result<Number, Fault>
+    requires { ⌜ 0 < place ⌝ ∗ ⌜ all / place ≤ 10 ^ 15 ⌝ }
+    ensures { λ r. ⌜ r ≡ fitted negative all place exponent ⌝ }
+{
+    if all % place != 0 || exponent < -99 || exponent > 99 {
+        return Err(Fault::NumberOutOfRange);
+    }
+    Ok(Number {
+        negative,
+        mantissa: (all / place) as u64,
+        exponent,
+    })
+}
+
+// The power of ten of the first of `digits` digits, the last of which stands for 10^power.
+fn first_power(power: i32, digits: u32) -> i32
+    requires { ⌜ digits ≤ 21 ⌝ }
+    requires { ⌜ negsuc 200 ≤ℤ power ⌝ ∗ ⌜ power ≤ℤ pos 200 ⌝ }
+    ensures { λ r. ⌜ r ≡ (power +ℤ pos digits) -ℤ pos 1 ⌝ }
+{
+    power + digits as i32 - 1
+}
+
 // The number that is ± value × 10^power, at the precision of `unit`, a power of ten.
 fn scale(negative: bool, value: u128, power: i32, unit: u128) -> Result<Number, Fault>
     requires { ⌜ value < 10 ^ 21 ⌝ }
@@ -80,16 +104,28 @@ fn scale(negative: bool, value: u128, power: i32, unit: u128) -> Result<Number, 
     ensures { λ r. ⌜ r ≡ scaled unit (record { negative = negative; value = value; power = power }) ⌝ }
 {
     if value == 0 {
-        return Ok(Number { negative: false, mantissa: 0, exponent: 0 });
+        return Ok(Number {
+            negative: false,
+            mantissa: 0,
+            exponent: 0,
+        });
     }
     let size = size_of(value);
-    let all = value * unit;
-    let exponent = power + size.count as i32 - 1;
-    if all % size.unit != 0 || exponent < -99 || exponent > 99 {
-        return Err(Fault::NumberOutOfRange);
-    }
-    let mantissa = (all / size.unit) as u64;
-    Ok(Number { negative, mantissa, exponent })
+    fit(
+        negative,
+        value * unit,
+        size.unit,
+        first_power(power, size.count),
+    )
+}
+
+// The power of ten of the last digit, with `places` digits after the point.
+fn last_power(exponent: i32, places: usize) -> i32
+    requires { ⌜ places ≤ 21 ⌝ }
+    requires { ⌜ negsuc 98 ≤ℤ exponent ⌝ ∗ ⌜ exponent ≤ℤ pos 99 ⌝ }
+    ensures { λ r. ⌜ r ≡ exponent -ℤ pos places ⌝ }
+{
+    exponent - places as i32
 }
 
 fn read_at(text: &[u8], unit: u128) -> Result<Number, Fault>
@@ -105,7 +141,7 @@ fn read_at(text: &[u8], unit: u128) -> Result<Number, Fault>
         return Err(Fault::WrongNumber);
     }
     match read_exponent(m.rest) {
-        Some(e) => scale(negative, m.value, e - m.places as i32, unit),
+        Some(e) => scale(negative, m.value, last_power(e, m.places), unit),
         None => Err(Fault::WrongNumber),
     }
 }
@@ -122,5 +158,12 @@ pub fn read_deviation(text: &[u8]) -> Result<Deviation, Fault>
     ensures { λ r. ⌜ r ≡ readDeviation (now (text .entry)) ⌝ }
 {
     let n = read_at(text, 1_000_000)?;
-    if n.negative { Err(Fault::NumberOutOfRange) } else { Ok(Deviation { mantissa: n.mantissa, exponent: n.exponent }) }
+    if n.negative {
+        Err(Fault::NumberOutOfRange)
+    } else {
+        Ok(Deviation {
+            mantissa: n.mantissa,
+            exponent: n.exponent,
+        })
+    }
 }

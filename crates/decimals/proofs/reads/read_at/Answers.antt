@@ -12,8 +12,8 @@ use Rattle.decimals.specs.Number.{digitsOfText, said, saidBy, exponent, number
 use Rattle.decimals.proofs.Reading.{readAt-long, readAt-said, saidBy-some, saidBy-empty, saidBy-none}
 use Rattle.decimals.proofs.reads.read_at.Needs as need
 
-lowered : (e : ℤ) (n : ℕ) → negsuc 98 ≤ℤ e → e ≤ℤ pos 99 → n ≤ 21 → toZ w32 (ofZ w32 (toZ w32 (ofZ w32 e) -ℤ toZ w32 n)) ≡ e -ℤ pos n
-lowered e n a b h = omega (arith, ints)
+lowered : (e r : ℤ) (n : ℕ) → negsuc 98 ≤ℤ e → e ≤ℤ pos 99 → n ≤ 21 → r ≡ toZ w32 (ofZ w32 e) -ℤ pos n → toZ w32 (ofZ w32 r) ≡ e -ℤ pos n
+lowered e r n a b h x = omega (arith, ints)
 
 pub returns-then-text-gt21 : need.returns-then-text-gt21
 returns-then-text-gt21 c = sym (readAt-long (c .args .unit) (c .args .text .now) (omega arith))
@@ -36,8 +36,13 @@ returns-in-Some c =
     let z : digitsOfText x .count ≡ 0 → ⊥ = λ q. c .if-m-eq0 .left (c .take-mantissa-m .ensures .count ∙ q) in
     let e = ap (λ t. saidBy (minus (unblank bs)) (digitsOfText t)) b ∙ saidBy-some (minus (unblank bs)) (digitsOfText x) (c .in-Some .e) z y in
     let f = readAt-said (c .args .unit) bs (omega arith) ∙ ap (numberOf (c .args .unit)) e in
-    let p = lowered (c .in-Some .e) (c .take-mantissa-m .result .places) (c .in-Some .ensures tt .small .0) (c .in-Some .ensures tt .small .1) (omega arith) in
-    cc
+    let p = lowered (c .in-Some .e) (c .last-power .result) (c .take-mantissa-m .result .places) (c .in-Some .ensures tt .small .0) (c .in-Some .ensures tt .small .1) (omega arith) (c .last-power .ensures) in
+    let value = c .take-mantissa-m .ensures .value in
+    let places = c .take-mantissa-m .ensures .places in
+    c .scale .ensures
+    ∙ (ap (λ q. scaled (c .args .unit) (record { negative = c .take-sign-negative .result .0; value = c .take-mantissa-m .result .value; power = q })) (p ∙ ap (λ k. c .in-Some .e -ℤ pos k) places)
+    ∙ (ap (λ v. scaled (c .args .unit) (record { negative = c .take-sign-negative .result .0; value = v; power = c .in-Some .e -ℤ pos (digitsOfText x .places) })) value
+    ∙ (ap (λ b. scaled (c .args .unit) (record { negative = b; value = digitsOfText x .value; power = c .in-Some .e -ℤ pos (digitsOfText x .places) })) (sym n) ∙ sym f)))
 
 pub returns-in-None : need.returns-in-None
 returns-in-None c =
