@@ -7,10 +7,10 @@ use Rattle.frame.specs.declared.heading.Additions.the-variants.{Nothing, Form,
 use Rattle.frame.specs.declared.heading.Caption.{Caption}
 use Rattle.frame.specs.declared.heading.Heading.{Heading}
 use Rattle.frame.specs.declared.heading.MatrixForm.{MatrixForm}
-use Rattle.frame.specs.declared.heading.MatrixKind.{MatrixKind}
-use Rattle.frame.specs.declared.heading.MatrixKind.the-variants.{Correlation, Covariance, Information}
-use Rattle.frame.specs.declared.heading.Triangle.{Triangle}
-use Rattle.frame.specs.declared.heading.Triangle.the-variants.{Lower, Upper}
+use Rattle.codes.specs.declared.letters.MatrixKind.{MatrixKind}
+use Rattle.codes.specs.declared.letters.MatrixKind.the-variants.{Correlation, Covariance, Information}
+use Rattle.triangle.specs.declared.row.Side.{Side}
+use Rattle.triangle.specs.declared.row.Side.the-variants.{Lower, Upper}
 use Rattle.frame.specs.declared.line.Line.{Line}
 use Rattle.frame.specs.declared.title.Title.{Title}
 use Rattle.frame.specs.declared.title.Title.the-variants.{FileReference, FileComment, InputHistory, InputFiles, InputAcknowledgements, NutationData, PrecessionData, SourceId, SiteId, SiteData, SiteReceiver, SiteAntenna, SiteGpsPhaseCenter, SiteGalPhaseCenter, SiteEccentricity, SatelliteId, SatellitePhaseCenter, BiasEpochs, SolutionEpochs, SolutionStatistics, SolutionEstimate, SolutionApriori, SolutionMatrixEstimate, SolutionMatrixApriori, SolutionNormalEquationVector, SolutionNormalEquationMatrix}
@@ -70,8 +70,8 @@ titleAmong text (k ∷ ks) = cond (firstWordIs (nameOf k) text) (Some k) (titleA
 unfoldable pub titleNamed : List ℕ → Option Title
 titleNamed text = titleAmong text titles
 
-abbrev pub form : Triangle → MatrixKind → Option MatrixForm
-form t k = Some (record { triangle = t; kind = k })
+abbrev pub form : Side → MatrixKind → Option MatrixForm
+form t k = Some (record { side = t; kind = k })
 
 -- L or U, and CORR, COVA or INFO
 abbrev pub formOf : List ℕ → Option MatrixForm

@@ -8,6 +8,8 @@ ghost use mathlib.Core.Path.{_≡_};
 use crate::line::Line;
 use crate::title::TITLES;
 use crate::title::Title;
+use codes::letters::MatrixKind;
+use triangle::row::Side;
 
 // The words after the sign, one blank apart, padded with blanks; and how long they are before that.
 #[derive(Clone, Copy)]
@@ -16,24 +18,10 @@ pub struct Heading {
     pub len: usize,
 }
 
-// Which half of a symmetric matrix a block states: columns up to the row, or rows up to the column.
-#[derive(Clone, Copy)]
-pub enum Triangle {
-    Lower,
-    Upper,
-}
-
-// What the cells of the matrix are.
-#[derive(Clone, Copy)]
-pub enum MatrixKind {
-    Correlation,
-    Covariance,
-    Information,
-}
-
+// Which triangle of the symmetric matrix a block states, and what its cells are.
 #[derive(Clone, Copy)]
 pub struct MatrixForm {
-    pub triangle: Triangle,
+    pub side: Side,
     pub kind: MatrixKind,
 }
 
@@ -166,32 +154,32 @@ fn matrix_form(text: &[u8]) -> Option<MatrixForm>
 {
     if is_text(text, b"L CORR") {
         Some(MatrixForm {
-            triangle: Triangle::Lower,
+            side: Side::Lower,
             kind: MatrixKind::Correlation,
         })
     } else if is_text(text, b"L COVA") {
         Some(MatrixForm {
-            triangle: Triangle::Lower,
+            side: Side::Lower,
             kind: MatrixKind::Covariance,
         })
     } else if is_text(text, b"L INFO") {
         Some(MatrixForm {
-            triangle: Triangle::Lower,
+            side: Side::Lower,
             kind: MatrixKind::Information,
         })
     } else if is_text(text, b"U CORR") {
         Some(MatrixForm {
-            triangle: Triangle::Upper,
+            side: Side::Upper,
             kind: MatrixKind::Correlation,
         })
     } else if is_text(text, b"U COVA") {
         Some(MatrixForm {
-            triangle: Triangle::Upper,
+            side: Side::Upper,
             kind: MatrixKind::Covariance,
         })
     } else if is_text(text, b"U INFO") {
         Some(MatrixForm {
-            triangle: Triangle::Upper,
+            side: Side::Upper,
             kind: MatrixKind::Information,
         })
     } else {

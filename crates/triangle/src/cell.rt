@@ -50,7 +50,11 @@ fn place(i: usize, j: usize) -> usize
 pub fn triangle_places(ranks: usize) -> Option<usize>
     ensures { λ n. ⌜ n ≡ cond (leb ranks 2000) (Some (tri ranks)) None ⌝ }
 {
-    if ranks <= RANKS { Some(rows(ranks)) } else { None }
+    if ranks <= RANKS {
+        Some(rows(ranks))
+    } else {
+        None
+    }
 }
 
 // Whether n rows are allowed, and fit that many places.
