@@ -49,7 +49,12 @@ fn block_tail(heap: Global, block: &Block) -> Result<String, AllocError>
 }
 
 // The line of a block.
-fn put_block<S: Source>(heap: Global, out: &mut Vec<u8>, source: &S, block: &Block) -> Result<(), AllocError>
+fn put_block<S: Source>(
+    heap: Global,
+    out: &mut Vec<u8>,
+    source: &S,
+    block: &Block,
+) -> Result<(), AllocError>
     ensures { λ r. ⌜ ByOk r (λ _. vec-items (now (out .exit)) ≡ vec-items (now (out .entry)) ++ blockLine (content (now (source .entry))) (now (block .entry))) (λ _. Unit {0}) ⌝ }
 {
     out.extend_from_slice(b"BLOCK ")?;
@@ -59,7 +64,12 @@ fn put_block<S: Source>(heap: Global, out: &mut Vec<u8>, source: &S, block: &Blo
 }
 
 // The lines of the blocks, one after another.
-fn put_blocks<S: Source>(heap: Global, out: &mut Vec<u8>, source: &S, blocks: &[Block]) -> Result<(), AllocError>
+fn put_blocks<S: Source>(
+    heap: Global,
+    out: &mut Vec<u8>,
+    source: &S,
+    blocks: &[Block],
+) -> Result<(), AllocError>
     ensures { λ r. ⌜ ByOk r (λ _. vec-items (now (out .exit)) ≡ vec-items (now (out .entry)) ++ blockLines (content (now (source .entry))) (now (blocks .entry))) (λ _. Unit {0}) ⌝ }
 {
     for block in blocks {

@@ -10,7 +10,9 @@ use std::io::Write;
 fn main(rt: LibcRuntime) -> io::Result<()> {
     let mut content = Vec::new(rt.alloc());
     // one byte more than a source may have, so that a longer one is seen to be too long
-    rt.stdin().take(LONGEST as u64 + 1).read_to_end(&mut content)?;
+    rt.stdin()
+        .take(LONGEST as u64 + 1)
+        .read_to_end(&mut content)?;
     let report = frame_report(rt.alloc(), &Bytes::new(&content))?;
     rt.stdout().write_all(&report)
 }
