@@ -1,0 +1,3 @@
+// What the programs print, as bytes.
+pub mod frames;
+pub mod refusal;
