@@ -1,11 +1,18 @@
 -- Bytes that are added to those already there.
 use Prim.Native.Nat.{ℕ, _+_, _<_, _≤_}
 use Rattle.frame.specs.Headings.{columns, headed, headingOf, squeezed}
+use Rattle.frame.specs.Lines.{fetched}
 use Rattle.frame.specs.declared.heading.Heading.{Heading}
 use Rattle.frame.specs.declared.line.Line.{Line}
+use Rattle.frame.specs.declared.title.Title.the-variants.{SolutionEstimate}
 use Rattle.frame.specs.declared.walk.Block.{Block}
+use Rattle.header.specs.Header.{andThen}
+use Rattle.header.specs.declared.HeaderLine.{HeaderLine}
+use Rattle.refusals.specs.declared.Fault.{Fault}
+use Rattle.reports.specs.FileReport.{counted, dataLinesOf, headerAt, headerIn}
 use Rattle.reports.specs.FrameReport.{blockLine, blockLines}
 use Rattle.std.proofs.shelf.Lists.{append-nil, at-drop-all, at-drop-more, take-all, take-append-le}
+use Rattle.std.proofs.shelf.Tests.{cond-true, eq-eqb}
 use Rattle.std.specs.Results.{Cases, isOk}
 use Rattle.std.specs.declared.result.Result.{Result}
 use Rattle.std.specs.declared.result.Result.the-variants.{Ok, Err}
@@ -45,3 +52,15 @@ lines-more cs bs i d before after all h e a =
 
 pub lines-all : (cs : List ℕ) (bs : List Block) (i : ℕ) (before all : List ℕ) → length bs ≤ i → before ++ blockLines cs (drop i bs) ≡ all → before ≡ all
 lines-all cs bs i before all h e = sym (append-nil before) ∙ (ap (λ zs. before ++ zs) (sym (at-drop-all (blockLines cs) bs i h)) ∙ e)
+
+-- three parts, the last of which was added by a call that says so
+pub added-after : {U E : Type 0} (r : Result U E) (before one two after a b ys whole : List ℕ) → one ≡ before ++ a → two ≡ one ++ b → Cases r (λ _. after ≡ two ++ ys) (λ _. Unit {0}) → a ++ (b ++ ys) ≡ whole → Cases r (λ _. after ≡ before ++ whole) (λ _. Unit {0})
+added-after (Ok u) before one two after a b ys whole p q e s =
+    e ∙ (ap (λ zs. zs ++ ys) (q ∙ ap (λ zs. zs ++ b) p) ∙ (append-assoc (before ++ a) b ys ∙ (append-assoc before a (b ++ ys) ∙ ap (λ zs. before ++ zs) s)))
+added-after (Err x) before one two after a b ys whole p q e s = tt
+
+-- a header whose count is that of the estimates
+pub counted-in : (cs : List ℕ) (bs : List Block) (x : HeaderLine) → Ok x ≡ headerAt (fetched cs) → x .count ≡ dataLinesOf SolutionEstimate bs → Ok x ≡ headerIn cs bs
+counted-in cs bs x e n =
+    let ok : counted (dataLinesOf SolutionEstimate bs) x ≡ Ok x = cond-true _ _ _ (eq-eqb _ _ n) in
+    sym ok ∙ ap (λ (r : Result HeaderLine Fault). andThen r (counted (dataLinesOf SolutionEstimate bs))) e

@@ -1,2 +1,3 @@
 pub mod Refused
+pub mod FileReport
 pub mod FrameReport

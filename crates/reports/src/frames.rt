@@ -19,7 +19,7 @@ use std::alloc::AllocError;
 use std::alloc::Global;
 
 // The first `n` items, or all where there are fewer.
-fn front<T>(items: &[T], n: usize) -> &[T]
+pub(crate) fn front<T>(items: &[T], n: usize) -> &[T]
     ensures { λ r. ⌜ now r ≡ take n (now (items .entry)) ⌝ }
 {
     if n < items.len() { &items[..n] } else { items }
@@ -64,7 +64,7 @@ fn put_block<S: Source>(
 }
 
 // The lines of the blocks, one after another.
-fn put_blocks<S: Source>(
+pub(crate) fn put_blocks<S: Source>(
     heap: Global,
     out: &mut Vec<u8>,
     source: &S,
@@ -79,7 +79,7 @@ fn put_blocks<S: Source>(
 }
 
 // The line of the whole.
-fn put_last(heap: Global, out: &mut Vec<u8>, lines: u32) -> Result<(), AllocError>
+pub(crate) fn put_last(heap: Global, out: &mut Vec<u8>, lines: u32) -> Result<(), AllocError>
     ensures { λ r. ⌜ ByOk r (λ _. vec-items (now (out .exit)) ≡ vec-items (now (out .entry)) ++ lastLine lines) (λ _. Unit {0}) ⌝ }
 {
     let text = format!(heap, "FRAME LINES {lines}\n")?;

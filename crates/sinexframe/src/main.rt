@@ -1,8 +1,9 @@
-// Checks the frame of a SINEX file: reads the file on standard input, and prints its blocks or the first fault.
+// Checks the frame and the header of a SINEX file: reads the file on standard input, and prints its header and its blocks, or
+// the first fault.
 use frame::walk::LONGEST;
 use media::bytes::Bytes;
 use media::bytes::BytesSource;
-use reports::frames::frame_report;
+use reports::files::file_report;
 use std::io;
 use std::io::Read;
 use std::io::Write;
@@ -13,6 +14,6 @@ fn main(rt: LibcRuntime) -> io::Result<()> {
     rt.stdin()
         .take(LONGEST as u64 + 1)
         .read_to_end(&mut content)?;
-    let report = frame_report(rt.alloc(), &Bytes::new(&content))?;
+    let report = file_report(rt.alloc(), &Bytes::new(&content))?;
     rt.stdout().write_all(&report)
 }
