@@ -3,9 +3,9 @@ use Prim.Native.Nat.{ℕ, zero, suc, _+_, _-_, _*_, _^_, _/_, _%_, _≤_, _<_}
 use mathlib.Core.Path.{_≡_, refl, sym, ap, _∙_, subst}
 use mathlib.Core.Bool.{Bool, true, false, cond}
 use mathlib.Core.List.{List, [], _∷_, _++_}
-use lib.ListN.{length, drop, set}
+use lib.ListN.{length, getD, take, drop, set}
 use borrow.Rule.Slice.PartMut.{putMid}
-use Rattle.std.proofs.shelf.Lists.{drop-all, drop-set, append-nil}
+use Rattle.std.proofs.shelf.Lists.{drop-all, drop-at, drop-drop, drop-set, append-nil, take-append-le, take-take, length-take-le}
 use lib.IntN.{ℤ, pos, negsuc}
 use lib.Signed.{ltZ}
 use lib.Arith.{mod-mul}
@@ -77,6 +77,30 @@ pub below-is : (q : ℤ) → ltZ q (pos 0) ≡ below q
 below-is (pos n) = le-ltb n 0 (omega arith)
 below-is (negsuc n) = refl
 
--- an array that parts were written to, from the last to the first
-pub joined-up : (s s′ d : ℕ) (ys ys′ es es′ : List ℕ) → s ≡ s′ → ys ≡ ys′ → es ≡ es′ → s ∷ (d ∷ (46 ∷ (ys ++ (es ++ [])))) ≡ s′ ∷ (d ∷ (46 ∷ (ys′ ++ es′)))
-joined-up s s′ d ys ys′ es es′ a b e = ap (λ x. x ∷ (d ∷ (46 ∷ (ys ++ (es ++ []))))) a ∙ (ap (λ x. s′ ∷ (d ∷ (46 ∷ (x ++ (es ++ []))))) b ∙ ap (λ x. s′ ∷ (d ∷ (46 ∷ (ys′ ++ x)))) (append-nil es ∙ e))
+-- a row that the exponent was written to, and then the digits from the second byte on
+abbrev written : List ℕ → List ℕ → List ℕ → List ℕ
+written xs es ds = putMid 1 (length xs - 4 - 1) (putMid (length xs - 4) (length xs - (length xs - 4)) xs es) ds
+
+pub exponent-put : (xs es : List ℕ) → 4 ≤ length xs → putMid (length xs - 4) (length xs - (length xs - 4)) xs es ≡ take (length xs - 4) xs ++ es
+exponent-put xs es h =
+    let a : ℕ = length xs - 4 in
+    let e : drop (length xs - a) (drop a xs) ≡ [] = drop-drop (length xs - a) a xs ∙ drop-all (a + (length xs - a)) xs (omega arith) in
+    ap (λ t. take a xs ++ (es ++ t)) e ∙ ap (λ t. take a xs ++ t) (append-nil es)
+
+written-is : (xs es ds : List ℕ) → 7 ≤ length xs → length es ≡ 4 → written xs es ds ≡ getD xs 0 0 ∷ (ds ++ es)
+written-is [] es ds h l = absurd (omega arith)
+written-is (x ∷ xs) es ds h l =
+    let n : ℕ = length (x ∷ xs) in
+    let f : List ℕ = take (n - 4) (x ∷ xs) in
+    let y = exponent-put (x ∷ xs) es (omega arith) in
+    let b : 1 ≤ length f = omega (arith, length-take-le (n - 4) (x ∷ xs) (omega arith)) in
+    let t : take 1 (f ++ es) ≡ x ∷ [] = take-append-le 1 f es b ∙ take-take 1 (n - 4) (x ∷ xs) (omega arith) in
+    let k : 1 + (n - 4 - 1) ≡ n - 4 = omega arith in
+    let d : drop (n - 4 - 1) (drop 1 (f ++ es)) ≡ es = drop-drop (n - 4 - 1) 1 (f ++ es) ∙ (ap (λ i. drop i (f ++ es)) k ∙ drop-at f es (n - 4) (length-take-le (n - 4) (x ∷ xs) (omega arith))) in
+    ap (λ u. putMid 1 (n - 4 - 1) u ds) y ∙ (ap (λ u. u ++ (ds ++ drop (n - 4 - 1) (drop 1 (f ++ es)))) t ∙ ap (λ u. x ∷ (ds ++ u)) d)
+
+-- and then the point in its place
+pub scientific : (xs es ds : List ℕ) (k m : ℕ) → length xs ≡ k + 6 → 7 ≤ length xs → length es ≡ 4 → ds ≡ fixed (suc k) m
+    → set (set (written xs es ds) 0 (getD (written xs es ds) 1 0)) 1 46 ≡ (48 + m / 10 ^ k % 10) ∷ (46 ∷ (fixed k m ++ es))
+scientific xs es ds k m n h l e =
+    ap (λ zs. set (set zs 0 (getD zs 1 0)) 1 46) (written-is xs es ds h l ∙ ap (λ t. getD xs 0 0 ∷ (t ++ es)) e)

@@ -1,6 +1,7 @@
 -- The laws of reading, from texts.
 use Prim.Native.Nat.{ℕ, _+_, _^_, _≤_, _<_}
 use mathlib.Core.Path.{_≡_, refl, sym, ap, _∙_, subst}
+use mathlib.Core.Bool.{true, false}
 use mathlib.Core.List.{List}
 use mathlib.Core.Logic.{_⊎_, inl, inr, ⊎-elim}
 use lib.IntN.{ℤ, pos, negsuc}
@@ -11,9 +12,9 @@ use Rattle.std.specs.declared.option.Option.the-variants.{Some, None}
 use Rattle.std.specs.declared.option.Option.{Option}
 use Rattle.std.specs.declared.result.Result.{Result}
 use Rattle.std.specs.declared.result.Result.the-variants.{Ok, Err}
-use Rattle.std.proofs.shelf.Tests.{cases-lt, cases-bool, cond-true, cond-false}
+use Rattle.std.proofs.shelf.Tests.{cases-lt, cases-bool, cond-true, cond-false, true≢false}
 use Rattle.decimals.specs.Number.{Said, said, readAt, readNumber, readDeviation, deviationOf, numberOf, scaled}
-use Rattle.decimals.specs.Value.{units, worth, SameValue, ValueIsKept, SameExactly, OneForm, RefusedRightly, SameDeviations}
+use Rattle.decimals.specs.Value.{units, worth, SameValue, ValueIsKept, SameExactly, OneForm, RefusedRightly, SameDeviations, DeviationsRefusedRightly}
 use Rattle.decimals.specs.Write.{Canonical, CanonicalDeviation, NumbersComeBack, DeviationsComeBack}
 use Rattle.decimals.specs.declared.number.Number.{Number}
 use Rattle.decimals.specs.declared.number.Deviation.{Deviation}
@@ -23,7 +24,7 @@ use Rattle.decimals.proofs.Faults.{no-fault}
 use Rattle.decimals.proofs.Reading.{readAt-long, readAt-said}
 use Rattle.decimals.proofs.Bounds.{Low, said-low}
 use Rattle.decimals.proofs.Values.{Read, read-value, same-from-values, values-from-same, value-read, unique}
-use Rattle.decimals.proofs.RoundTrip.{length-text, numberAs, number-back, deviation-back}
+use Rattle.decimals.proofs.RoundTrip.{length-text, numberAs, as-canonical, number-back, deviation-back}
 
 -- a text that is read is short
 short : (k : ℕ) (bs : List ℕ) (n : Number) → readAt (10 ^ (k + 1)) bs ≡ Ok n → length bs ≤ 21
@@ -99,3 +100,24 @@ pub same-deviations : SameDeviations
 same-deviations bs cs s t d e x y a b =
     let w = same-at 5 bs cs s t (numberAs d) (numberAs e) (omega arith) x y (deviation-as (readAt (10 ^ 6) bs) d a) (deviation-as (readAt (10 ^ 6) cs) e b) in
     (λ z. w .0 (ap numberAs z), λ v. ap (λ (n : Number). record { mantissa = n .mantissa; exponent = n .exponent }) (w .1 v))
+
+short-deviation : (bs : List ℕ) → readDeviation bs ≡ Err NumberOutOfRange → length bs ≤ 21
+short-deviation bs e = ⊎-elim (λ l. let f = ap deviationOf (readAt-long (10 ^ 6) bs l) in let z : _≡_ {A = ℕ} 0 1 = cc in absurd (omega arith)) (λ h. h) (cases-lt 21 (length bs))
+
+-- a number that is no deviation is below zero
+below-zero : (n : Number) → deviationOf (Ok n) ≡ Err NumberOutOfRange → n .negative ≡ true
+below-zero n e =
+    ⊎-elim (λ t. t)
+    (λ f. absurd (no-fault NumberOutOfRange (record { mantissa = n .mantissa; exponent = n .exponent }) (sym e ∙ cond-false (n .negative) (Err NumberOutOfRange) (Ok (record { mantissa = n .mantissa; exponent = n .exponent })) f)))
+    (cases-bool (n .negative))
+
+pub deviations-refused-rightly : DeviationsRefusedRightly
+deviations-refused-rightly bs s x e d c v =
+    let h = short-deviation bs e in
+    let w = value-read 5 s (numberAs d) (omega arith) (low bs s h x) (as-canonical d c) v in
+    let f : readAt (10 ^ 6) bs ≡ Ok (w .0) = readAt-said (10 ^ 6) bs h ∙ (ap (numberOf (10 ^ 6)) x ∙ w .1) in
+    let t = below-zero (w .0) (sym (ap deviationOf f) ∙ e) in
+    ⊎-elim
+    (λ z. absurd (true≢false (sym t ∙ ap (λ (n : Number). n .negative) (z .1))))
+    (λ y. sym (y .1) ∙ t)
+    (read-of 5 bs s (w .0) (omega arith) x f .sign)

@@ -130,7 +130,7 @@ number-back n w =
 abbrev pub numberAs : Deviation → Number
 numberAs d = record { negative = false; mantissa = d .mantissa; exponent = d .exponent }
 
-as-canonical : (d : Deviation) → CanonicalDeviation d → Canonical 5 (numberAs d)
+pub as-canonical : (d : Deviation) → CanonicalDeviation d → Canonical 5 (numberAs d)
 as-canonical d (inl z) = inl (ap numberAs z)
 as-canonical d (inr w) = inr w
 

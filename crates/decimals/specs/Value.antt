@@ -1,6 +1,7 @@
 -- The decimal value of a text, and when two texts have the same.
 use Prim.Native.Nat.{ℕ, _+_, _*_, _^_}
 use mathlib.Core.Path.{_≡_}
+use mathlib.Core.Bool.{true}
 use mathlib.Core.List.{List}
 use mathlib.Core.Logic.{_⊎_}
 use lib.IntN.{ℤ, pos, negsuc, natAbs, _+ℤ_, _-ℤ_}
@@ -8,7 +9,7 @@ use lib.Signed.{_≤ℤ_}
 use Rattle.std.specs.declared.option.Option.the-variants.{Some}
 use Rattle.std.specs.declared.result.Result.the-variants.{Ok, Err}
 use Rattle.decimals.specs.Number.{Said, said, readNumber, readDeviation}
-use Rattle.decimals.specs.Write.{Canonical}
+use Rattle.decimals.specs.Write.{Canonical, CanonicalDeviation}
 use Rattle.decimals.specs.declared.number.Number.{Number}
 use Rattle.decimals.specs.declared.number.Deviation.{Deviation}
 use Rattle.refusals.specs.declared.Fault.the-variants.{NumberOutOfRange}
@@ -46,3 +47,8 @@ RefusedRightly = (bs : List ℕ) (s : Said) → said bs ≡ Some s → readNumbe
 abbrev pub SameDeviations : Type 0
 SameDeviations = (bs cs : List ℕ) (s t : Said) (d e : Deviation) → said bs ≡ Some s → said cs ≡ Some t → readDeviation bs ≡ Ok d → readDeviation cs ≡ Ok e
     → (d ≡ e → SameValue s t) × (SameValue s t → d ≡ e)
+
+-- a deviation in due form is refused only where it is below zero, or no deviation that can be kept has its value
+abbrev pub DeviationsRefusedRightly : Type 0
+DeviationsRefusedRightly = (bs : List ℕ) (s : Said) → said bs ≡ Some s → readDeviation bs ≡ Err NumberOutOfRange
+    → (d : Deviation) → CanonicalDeviation d → units (s .value) (s .power) ≡ units (d .mantissa) (d .exponent -ℤ pos 5) → s .negative ≡ true

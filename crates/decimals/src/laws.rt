@@ -1,7 +1,7 @@
 // What reading and writing have to do with each other, and with the values of numbers.
 ghost use mathlib.Core.Path.{_≡_};
 ghost use Rattle.decimals.specs.Grammar.{NumbersHaveForm, WrongExactly};
-ghost use Rattle.decimals.specs.Value.{ValueIsKept, SameExactly, OneForm, RefusedRightly, SameDeviations};
+ghost use Rattle.decimals.specs.Value.{ValueIsKept, SameExactly, OneForm, RefusedRightly, SameDeviations, DeviationsRefusedRightly};
 ghost use Rattle.decimals.specs.Write.{NumbersComeBack, DeviationsComeBack};
 
 // What is read is kept in one form, and what is written of it is read as that same number or deviation.
@@ -29,6 +29,7 @@ pub fn numbers_are_values() -> u8
     ensures form { λ _. ⌜ OneForm ⌝ }
     ensures refused { λ _. ⌜ RefusedRightly ⌝ }
     ensures deviations { λ _. ⌜ SameDeviations ⌝ }
+    ensures below { λ _. ⌜ DeviationsRefusedRightly ⌝ }
 {
     0
 }

@@ -3,9 +3,10 @@ ghost use mathlib.Core.Path.{_≡_};
 ghost use mathlib.Core.Bool.{cond};
 ghost use mathlib.Core.List.{_∷_};
 ghost use lib.IntN.{natAbs};
+ghost use Prim.Native.Nat.{_-_, _≤_};
 ghost use lib.ListN.{length};
 ghost use Rattle.decimals.specs.Justify.{blanked, marked, justified};
-ghost use Rattle.decimals.specs.Write.{fixed, below, numberText, deviationText};
+ghost use Rattle.decimals.specs.Write.{fixed, below, digitsText, numberText, deviationText};
 use crate::number::Deviation;
 use crate::number::Number;
 
@@ -74,23 +75,33 @@ fn put_exponent(out: &mut [u8], q: i32)
     put_digits(&mut out[2..4], q.unsigned_abs() as u64);
 }
 
+// One digit, a point, the digits that there is room for, and the exponent.
+fn put_scientific(out: &mut [u8], m: u64, q: i32)
+    requires { ⌜ 7 ≤ length (now out) ⌝ }
+    ensures { λ _. ⌜ now (out .exit) ≡ digitsText (length (now (out .entry)) - 6) m q ⌝ }
+{
+    let n = out.len();
+    put_exponent(&mut out[n - 4..n], q);
+    put_digits(&mut out[1..n - 4], m);
+    out[0] = out[1];
+    out[1] = b'.';
+}
+
+// A number: a column for the sign, and fourteen digits after the point.
 pub fn write_number(n: &Number) -> [u8; 21]
     ensures { λ r. ⌜ r ≡ numberText (now (n .entry)) ⌝ }
 {
-    let mut out = [b'.'; 21];
+    let mut out = [b' '; 21];
     out[0] = sign_column(n.negative, b' ');
-    out[1] = b'0' + (n.mantissa / 100_000_000_000_000 % 10) as u8;
-    put_exponent(&mut out[17..21], n.exponent);
-    put_digits(&mut out[3..17], n.mantissa);
+    put_scientific(&mut out[1..21], n.mantissa, n.exponent);
     out
 }
 
+// A deviation: five digits after the point.
 pub fn write_deviation(d: &Deviation) -> [u8; 11]
     ensures { λ r. ⌜ r ≡ deviationText (now (d .entry)) ⌝ }
 {
-    let mut out = [b'.'; 11];
-    out[0] = b'0' + (d.mantissa / 100_000 % 10) as u8;
-    put_exponent(&mut out[7..11], d.exponent);
-    put_digits(&mut out[2..7], d.mantissa);
+    let mut out = [b' '; 11];
+    put_scientific(&mut out[0..11], d.mantissa, d.exponent);
     out
 }

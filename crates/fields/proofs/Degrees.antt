@@ -117,6 +117,7 @@ rest-read most sign neg n h =
     ∙ angle-yes most neg n h)))
 
 latitude-bytes : (neg : Bool) (n : ℕ) → n ≤ 3240000 → readLatitude (angleBytes neg n) ≡ Ok (signed neg n)
+unfolding readLatitude
 latitude-bytes neg n h =
     let d : ℕ = n / 36000 in
     let c = cut-angle neg n in
@@ -130,6 +131,7 @@ latitude-bytes neg n h =
     ∙ (ap (λ o. angleRest 3240000 neg o (angleBytes neg n)) y ∙ rest-read 3240000 neg neg n h))
 
 longitude-bytes : (n : ℕ) → n ≤ 12959999 → readLongitude (angleBytes false n) ≡ Ok (pos n)
+unfolding readLongitude
 longitude-bytes n h =
     let c = cut-angle false n in
     let y : numeral (unblank (columns 0 3 (angleBytes false n))) ≡ Some (n / 36000) = ap (λ t. numeral (unblank t)) (c .degrees) ∙ right-numeral 3 (n / 36000) (omega arith) (omega arith) (omega arith) in
@@ -168,11 +170,13 @@ angle-ranged most neg (Some d) None s = tt
 angle-ranged most neg None m s = tt
 
 latitude-ranged : (bs : List ℕ) → InRange 3240000 (minus (unblank (columns 0 3 bs))) (readLatitude bs)
+unfolding readLatitude
 latitude-ranged bs = cond-both (spaced bs) (angleRest 3240000 (minus (unblank (columns 0 3 bs))) (numeral (unsigned (unblank (columns 0 3 bs)))) bs) (Err WrongText) (InRange 3240000 (minus (unblank (columns 0 3 bs))))
     (λ _. angle-ranged 3240000 (minus (unblank (columns 0 3 bs))) (numeral (unsigned (unblank (columns 0 3 bs)))) (numeral (unblank (columns 4 6 bs))) (tenths (unblank (columns 7 11 bs))))
     (λ _. tt)
 
 longitude-ranged : (bs : List ℕ) → InRange 12959999 false (readLongitude bs)
+unfolding readLongitude
 longitude-ranged bs = cond-both (spaced bs) (angleRest 12959999 false (numeral (unblank (columns 0 3 bs))) bs) (Err WrongText) (InRange 12959999 false)
     (λ _. angle-ranged 12959999 false (numeral (unblank (columns 0 3 bs))) (numeral (unblank (columns 4 6 bs))) (tenths (unblank (columns 7 11 bs))))
     (λ _. tt)
@@ -196,6 +200,7 @@ longitudes-come-back = (
 -- ---- heights
 
 height-bytes : (neg : Bool) (n : ℕ) → Justified neg 5 (n / 10) (46 ∷ fixed 1 n) → n ≤ cond neg 99999 999999 → readHeight (justified neg 5 (n / 10) ++ (46 ∷ fixed 1 n)) ≡ Ok (signed neg n)
+unfolding readHeight
 height-bytes neg n j h =
     let bs : List ℕ = justified neg 5 (n / 10) ++ (46 ∷ fixed 1 n) in
     let y : tenths (unsigned (unblank bs)) ≡ Some n = ap tenths (j .rest) ∙ (tenths-shown (j .digits) (n / 10) n (j .only) (j .some) (omega (arith, j .few)) (j .value) ∙ ap Some (omega arith)) in
@@ -215,6 +220,7 @@ height-range true z r = let x : z ≡ negℤ (pos (r .size)) = r .is in let l : 
 height-range false z r = let x : z ≡ pos (r .size) = r .is in let l : r .size ≤ 999999 = r .few in (omega (arith, ints, x, l), omega (arith, ints, x, l))
 
 pub heights-come-back : HeightsComeBack
+unfolding readHeight
 heights-come-back = (
   (λ bs z e. height-range (minus (unblank bs)) z (subst (InRange (cond (minus (unblank bs)) 99999 999999) (minus (unblank bs))) e (height-ranged (minus (unblank bs)) (tenths (unsigned (unblank bs)))))),
   height-back,

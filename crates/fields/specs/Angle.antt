@@ -42,11 +42,11 @@ abbrev pub angleRest : ℕ → Bool → Option ℕ → List ℕ → Result ℤ F
 angleRest most neg d bs = angleOf most neg d (numeral (unblank (columns 4 6 bs))) (tenths (unblank (columns 7 11 bs)))
 
 -- below 360 degrees
-abbrev pub readLongitude : List ℕ → Result ℤ Fault
+unfoldable pub readLongitude : List ℕ → Result ℤ Fault
 readLongitude bs = cond (spaced bs) (angleRest 12959999 false (numeral (unblank (columns 0 3 bs))) bs) (Err WrongText)
 
 -- within 90 degrees; the sign is read from the text of the degrees
-abbrev pub readLatitude : List ℕ → Result ℤ Fault
+unfoldable pub readLatitude : List ℕ → Result ℤ Fault
 readLatitude bs = cond (spaced bs) (angleRest 3240000 (minus (unblank (columns 0 3 bs))) (numeral (unsigned (unblank (columns 0 3 bs)))) bs) (Err WrongText)
 
 -- a height of n tenths of a metre, or below zero
@@ -58,7 +58,7 @@ heightOf neg (Some n) = height neg n
 heightOf neg None = Err WrongNumber
 
 -- from -9999.9 to 99999.9
-abbrev pub readHeight : List ℕ → Result ℤ Fault
+unfoldable pub readHeight : List ℕ → Result ℤ Fault
 readHeight bs = heightOf (minus (unblank bs)) (tenths (unsigned (unblank bs)))
 
 -- degrees in three columns, minutes in two, seconds in four; the sign stands before the degrees

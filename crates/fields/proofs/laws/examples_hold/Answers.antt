@@ -6,10 +6,11 @@ use lib.Dec.{lit≤, lit<}
 use lib.IntN.{pos, negsuc}
 use Rattle.decimals.specs.Number.{readAt, scaled, deviationOf}
 use Rattle.decimals.proofs.Reading.{read-by}
+use Rattle.fields.specs.Angle.{readLatitude}
 use Rattle.fields.proofs.laws.examples_hold.Needs as need
 
 pub returns : need.returns
-unfolding readAt scaled
+unfolding readAt scaled readLatitude
 returns c = (
   read-by (10 ^ 15) (codes "0.1E+01") (record { negative = false; value = 1; power = pos 0 }) 0 (lit≤ tt) refl (lit≤ tt) (lit< tt),
   read-by (10 ^ 15) (codes "1") (record { negative = false; value = 1; power = pos 0 }) 0 (lit≤ tt) refl (lit≤ tt) (lit< tt),
