@@ -42,7 +42,10 @@ impl Record for Row as RowRecord {
     }
 
     fn blank() -> Row {
-        Row { code: 0, fields: [0; 7] }
+        Row {
+            code: 0,
+            fields: [0; 7],
+        }
     }
 }
 
@@ -60,7 +63,11 @@ impl Cell for Value as ValueCell {
     ghost isNought = { isZero };
 
     fn zero() -> Value {
-        Value { mantissa: 0, exponent: 0, negative: false }
+        Value {
+            mantissa: 0,
+            exponent: 0,
+            negative: false,
+        }
     }
 
     fn is_zero(&self) -> bool {
@@ -83,7 +90,14 @@ fn insert_all(rows: &mut [Row], n: usize) -> usize {
     for _ in 0..n {
         x = scatter(x);
         let code = x;
-        if let Ok(more) = put_in(rows, used, Row { code, fields: [code; 7] }) {
+        if let Ok(more) = put_in(
+            rows,
+            used,
+            Row {
+                code,
+                fields: [code; 7],
+            },
+        ) {
             used = more;
         }
     }
@@ -93,13 +107,17 @@ fn insert_all(rows: &mut [Row], n: usize) -> usize {
 fn row_sum(rows: &[Row]) -> u64 {
     let mut sum = 0u64;
     for (i, r) in rows.iter().enumerate() {
-        sum = sum.wrapping_add(r.code.wrapping_mul(i as u64)).wrapping_add(r.fields[6]);
+        sum = sum.wrapping_add(r.code.wrapping_mul(i as u64))
+            .wrapping_add(r.fields[6]);
     }
     sum
 }
 
 fn inserts(rt: &LibcRuntime, n: usize, times: usize) -> Result<(), AnyError> {
-    let mut rows: Vec<Row> = vec![in rt.alloc(); Row { code: 0, fields: [0; 7] }; n]?;
+    let mut rows: Vec<Row> = vec![in rt.alloc(); Row {
+        code: 0,
+        fields: [0; 7]
+    }; n]?;
     let start = Instant::now(rt)?;
     let mut used = 0;
     for _ in 0..times {
@@ -131,7 +149,11 @@ fn fill_cells(cells: &mut [Value]) {
     let mut x = 88172645463325252u64;
     for i in 0..cells.len() {
         x = scatter(x);
-        cells[i] = Value { mantissa: x >> 8, exponent: 3, negative: x & 1 == 1 };
+        cells[i] = Value {
+            mantissa: x >> 8,
+            exponent: 3,
+            negative: x & 1 == 1,
+        };
     }
 }
 
@@ -145,7 +167,11 @@ fn cell_sum(cells: &[Value]) -> u64 {
 
 fn ranks(rt: &LibcRuntime, n: usize, times: usize) -> Result<(), AnyError> {
     let places = triangle_places(n).unwrap_or(0);
-    let mut cells: Vec<Value> = vec![in rt.alloc(); Value { mantissa: 0, exponent: 0, negative: false }; places]?;
+    let mut cells: Vec<Value> = vec![in rt.alloc(); Value {
+        mantissa: 0,
+        exponent: 0,
+        negative: false
+    }; places]?;
     fill_cells(cells.as_mut_slice());
     let start = Instant::now(rt)?;
     let granted = turn_ranks(cells.as_mut_slice(), n, times);

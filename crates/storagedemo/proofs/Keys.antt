@@ -16,4 +16,4 @@ reading-order = by-key (λ (x : Reading). x .code) codeOrder code-order
 pub visit-order : Order visitOrder
 visit-order =
     then-order _ _ (by-key (λ (x : Visit). x .code) codeOrder code-order)
-        (then-order _ _ (by-key (λ (x : Visit). x .hour) rank rank-order) (by-key (λ (x : Visit). x .minute) rank rank-order))
+    (then-order _ _ (by-key (λ (x : Visit). x .hour) rank rank-order) (by-key (λ (x : Visit). x .minute) rank rank-order))

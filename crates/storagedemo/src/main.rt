@@ -23,11 +23,18 @@ fn code(letter: u8, digit: u8) -> Code {
 }
 
 fn reading(letter: u8, digit: u8, number: u32) -> Reading {
-    Reading { code: code(letter, digit), number }
+    Reading {
+        code: code(letter, digit),
+        number,
+    }
 }
 
 fn element(row: usize, column: usize, value: u32) -> Element<Amount> {
-    Element { row, column, value: Amount { value } }
+    Element {
+        row,
+        column,
+        value: Amount { value },
+    }
 }
 
 fn show_code(rt: &LibcRuntime, c: Code) -> io::Result<()> {
@@ -93,22 +100,129 @@ fn step(rt: &LibcRuntime, sheet: &mut Sheet, said: &str, step: Step) -> io::Resu
 
 fn main(rt: LibcRuntime) -> io::Result<()> {
     let mut sheet = blank_sheet();
-    step(&rt, &mut sheet, "put B2", Step::PutReading(reading(b'B', b'2', 20)))?;
-    step(&rt, &mut sheet, "put C3", Step::PutReading(reading(b'C', b'3', 30)))?;
-    step(&rt, &mut sheet, "set B2 C3", Step::SetCell(code(b'B', b'2'), code(b'C', b'3'), Amount { value: 5 }))?;
-    step(&rt, &mut sheet, "set C3 C3", Step::SetCell(code(b'C', b'3'), code(b'C', b'3'), Amount { value: 9 }))?;
-    step(&rt, &mut sheet, "put A1, the first rank", Step::PutReading(reading(b'A', b'1', 10)))?;
-    step(&rt, &mut sheet, "put B9, a rank between", Step::PutReading(reading(b'B', b'9', 29)))?;
-    step(&rt, &mut sheet, "put B2 again", Step::PutReading(reading(b'B', b'2', 21)))?;
-    step(&rt, &mut sheet, "put D4, no place", Step::PutReading(reading(b'D', b'4', 40)))?;
-    step(&rt, &mut sheet, "drop B9", Step::DropReading(code(b'B', b'9')))?;
-    step(&rt, &mut sheet, "drop B9 again", Step::DropReading(code(b'B', b'9')))?;
-    step(&rt, &mut sheet, "set D4 A1, absent", Step::SetCell(code(b'D', b'4'), code(b'A', b'1'), Amount { value: 1 }))?;
-    let order = [reading(b'C', b'3', 0), reading(b'A', b'1', 0), reading(b'B', b'2', 0)];
-    let upper = [element(1, 2, 7), element(2, 2, 4), element(2, 3, 8), element(1, 3, 0), element(3, 2, 6), element(3, 3, 3)];
-    step(&rt, &mut sheet, "states of an upper triangle by C3 A1 B2, up to a fault", Step::State(Side::Upper, order, upper))?;
-    step(&rt, &mut sheet, "visit B2", Step::PutVisit(Visit { code: code(b'B', b'2'), hour: 9, minute: 30 }))?;
-    step(&rt, &mut sheet, "visit B2 later", Step::PutVisit(Visit { code: code(b'B', b'2'), hour: 11, minute: 5 }))?;
-    step(&rt, &mut sheet, "visit A1", Step::PutVisit(Visit { code: code(b'A', b'1'), hour: 23, minute: 0 }))?;
-    step(&rt, &mut sheet, "drop visit B2", Step::DropVisit(Visit { code: code(b'B', b'2'), hour: 9, minute: 30 }))
+    step(
+        &rt,
+        &mut sheet,
+        "put B2",
+        Step::PutReading(reading(b'B', b'2', 20)),
+    )?;
+    step(
+        &rt,
+        &mut sheet,
+        "put C3",
+        Step::PutReading(reading(b'C', b'3', 30)),
+    )?;
+    step(
+        &rt,
+        &mut sheet,
+        "set B2 C3",
+        Step::SetCell(code(b'B', b'2'), code(b'C', b'3'), Amount { value: 5 }),
+    )?;
+    step(
+        &rt,
+        &mut sheet,
+        "set C3 C3",
+        Step::SetCell(code(b'C', b'3'), code(b'C', b'3'), Amount { value: 9 }),
+    )?;
+    step(
+        &rt,
+        &mut sheet,
+        "put A1, the first rank",
+        Step::PutReading(reading(b'A', b'1', 10)),
+    )?;
+    step(
+        &rt,
+        &mut sheet,
+        "put B9, a rank between",
+        Step::PutReading(reading(b'B', b'9', 29)),
+    )?;
+    step(
+        &rt,
+        &mut sheet,
+        "put B2 again",
+        Step::PutReading(reading(b'B', b'2', 21)),
+    )?;
+    step(
+        &rt,
+        &mut sheet,
+        "put D4, no place",
+        Step::PutReading(reading(b'D', b'4', 40)),
+    )?;
+    step(
+        &rt,
+        &mut sheet,
+        "drop B9",
+        Step::DropReading(code(b'B', b'9')),
+    )?;
+    step(
+        &rt,
+        &mut sheet,
+        "drop B9 again",
+        Step::DropReading(code(b'B', b'9')),
+    )?;
+    step(
+        &rt,
+        &mut sheet,
+        "set D4 A1, absent",
+        Step::SetCell(code(b'D', b'4'), code(b'A', b'1'), Amount { value: 1 }),
+    )?;
+    let order = [
+        reading(b'C', b'3', 0),
+        reading(b'A', b'1', 0),
+        reading(b'B', b'2', 0),
+    ];
+    let upper = [
+        element(1, 2, 7),
+        element(2, 2, 4),
+        element(2, 3, 8),
+        element(1, 3, 0),
+        element(3, 2, 6),
+        element(3, 3, 3),
+    ];
+    step(
+        &rt,
+        &mut sheet,
+        "states of an upper triangle by C3 A1 B2, up to a fault",
+        Step::State(Side::Upper, order, upper),
+    )?;
+    step(
+        &rt,
+        &mut sheet,
+        "visit B2",
+        Step::PutVisit(Visit {
+            code: code(b'B', b'2'),
+            hour: 9,
+            minute: 30,
+        }),
+    )?;
+    step(
+        &rt,
+        &mut sheet,
+        "visit B2 later",
+        Step::PutVisit(Visit {
+            code: code(b'B', b'2'),
+            hour: 11,
+            minute: 5,
+        }),
+    )?;
+    step(
+        &rt,
+        &mut sheet,
+        "visit A1",
+        Step::PutVisit(Visit {
+            code: code(b'A', b'1'),
+            hour: 23,
+            minute: 0,
+        }),
+    )?;
+    step(
+        &rt,
+        &mut sheet,
+        "drop visit B2",
+        Step::DropVisit(Visit {
+            code: code(b'B', b'2'),
+            hour: 9,
+            minute: 30,
+        }),
+    )
 }

@@ -74,7 +74,13 @@ pub impl Record for Reading as ReadingRecord {
     }
 
     fn blank() -> Reading {
-        Reading { code: Code { letter: b'.', digit: b'.' }, number: 0 }
+        Reading {
+            code: Code {
+                letter: b'.',
+                digit: b'.',
+            },
+            number: 0,
+        }
     }
 }
 
@@ -91,7 +97,14 @@ pub impl Record for Visit as VisitRecord {
     }
 
     fn blank() -> Visit {
-        Visit { code: Code { letter: b'.', digit: b'.' }, hour: 0, minute: 0 }
+        Visit {
+            code: Code {
+                letter: b'.',
+                digit: b'.',
+            },
+            hour: 0,
+            minute: 0,
+        }
     }
 }
 

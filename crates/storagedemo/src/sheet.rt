@@ -58,7 +58,12 @@ pub fn blank_sheet() -> Sheet {
 }
 
 // Puts a reading; a new one gets a rank of the matrix with zero cells. How many readings there are then.
-fn put_reading(rows: &mut [Reading], used: usize, cells: &mut [Amount], r: Reading) -> Result<usize, Fault>
+fn put_reading(
+    rows: &mut [Reading],
+    used: usize,
+    cells: &mut [Amount],
+    r: Reading,
+) -> Result<usize, Fault>
     ensures answer { λ a. ⌜ a ≡ putAnswer readingOrder r used (now (rows .entry)) ⌝ }
     ensures rows { λ _. ⌜ now (rows .exit) ≡ putRows readingOrder r used (now (rows .entry)) ⌝ }
 {
@@ -73,7 +78,12 @@ fn put_reading(rows: &mut [Reading], used: usize, cells: &mut [Amount], r: Readi
 }
 
 // Drops the reading of a code, and its rank of the matrix. How many readings there are then.
-fn drop_reading(rows: &mut [Reading], used: usize, cells: &mut [Amount], r: &Reading) -> Result<usize, Fault>
+fn drop_reading(
+    rows: &mut [Reading],
+    used: usize,
+    cells: &mut [Amount],
+    r: &Reading,
+) -> Result<usize, Fault>
     ensures answer { λ a. ⌜ a ≡ dropAnswer readingOrder (now (r .entry)) used (now (rows .entry)) ⌝ }
     ensures rows { λ _. ⌜ now (rows .exit) ≡ dropRows readingOrder bareReading (now (r .entry)) used (now (rows .entry)) ⌝ }
 {
@@ -96,12 +106,21 @@ fn rank_of(rows: &[Reading], used: usize, code: Code) -> Result<usize, Fault> {
 }
 
 // States the elements of a file whose readings come in that order, up to a fault.
-fn state(sheet: &mut Sheet, side: Side, order: &[Reading], elements: &[Element<Amount>]) -> Result<(), Fault> {
+fn state(
+    sheet: &mut Sheet,
+    side: Side,
+    order: &[Reading],
+    elements: &[Element<Amount>],
+) -> Result<(), Fault> {
     let used = sheet.used;
     fill_row(&mut sheet.row, &sheet.readings, used, order)?;
     let taken = state_all(&mut sheet.cells, &sheet.row, order.len(), side, elements);
     clear_row(&mut sheet.row);
-    if taken == elements.len() { Ok(()) } else { Err(Fault::WrongCell) }
+    if taken == elements.len() {
+        Ok(())
+    } else {
+        Err(Fault::WrongCell)
+    }
 }
 
 pub fn replay(sheet: &mut Sheet, step: Step) -> Result<(), Fault> {
@@ -112,7 +131,12 @@ pub fn replay(sheet: &mut Sheet, step: Step) -> Result<(), Fault> {
             Ok(())
         }
         Step::DropReading(code) => {
-            sheet.used = drop_reading(&mut sheet.readings, used, &mut sheet.cells, &Reading { code, number: 0 })?;
+            sheet.used = drop_reading(
+                &mut sheet.readings,
+                used,
+                &mut sheet.cells,
+                &Reading { code, number: 0 },
+            )?;
             Ok(())
         }
         Step::SetCell(a, b, amount) => {

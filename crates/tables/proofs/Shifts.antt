@@ -32,10 +32,10 @@ module _ {R : Type 0} (part start : List R) (u i j : ℕ) (d : R) (next : i ≡ 
   rise-drop above =
       let n : length (take u start) ≡ u = length-take-le u start (omega arith) in
       let was : x ≡ getD (take u start) j d =
-          sym (getD-take (i + 1) part j d (omega arith))
-          ∙ ap (λ t. getD t j d) below
-          ∙ getD-take (i + 1) start j d (omega arith)
-          ∙ sym (getD-take u start j d (omega arith)) in
+      sym (getD-take (i + 1) part j d (omega arith))
+      ∙ ap (λ t. getD t j d) below
+      ∙ getD-take (i + 1) start j d (omega arith)
+      ∙ sym (getD-take u start j d (omega arith)) in
       ap (λ t. drop t (set part i x)) (sym next)
       ∙ drop-set part i x (omega arith)
       ∙ ap (λ t. x ∷ t) (above ∙ ap (λ t. drop t (take u start)) next)
@@ -43,7 +43,7 @@ module _ {R : Type 0} (part start : List R) (u i j : ℕ) (d : R) (next : i ≡ 
       ∙ sym (drop-more (take u start) j d (omega arith))
 
 pub rise-end : {R : Type 0} (part start : List R) (i u : ℕ) → i ≡ 0 → u ≡ length start - 1 → take (i + 1) part ≡ take (i + 1) start → drop (i + 1) part ≡ drop i (take u start)
-  → part ≡ take 1 start ++ take (length start - 1) start
+    → part ≡ take 1 start ++ take (length start - 1) start
 rise-end part start i u e last below above =
     sym (take-append-drop (i + 1) part)
     ∙ ap (λ t. t ++ drop (i + 1) part) below
@@ -78,7 +78,7 @@ module _ {R : Type 0} (part start : List R) (i : ℕ) (d : R) (lt : i + 1 < leng
       ∙ drop-drop 1 i start
 
 pub fall-end : {R : Type 0} (part start : List R) (i : ℕ) → i ≡ length start - 1 → take i part ≡ take i (drop 1 start) → drop i part ≡ drop i start
-  → part ≡ drop 1 start ++ drop (length start - 1) start
+    → part ≡ drop 1 start ++ drop (length start - 1) start
 fall-end part start i e below above =
     let n : length (drop 1 start) ≡ length start - 1 = length-drop 1 start in
     sym (take-append-drop i part)
@@ -90,8 +90,8 @@ fall-end part start i e below above =
 
 -- the rows from k to u, past the shift of the part that ends with place u
 pub insert-part : {R : Type 0} (rows part : List R) (k u : ℕ) (r : R) → k ≤ u → u < length rows
-  → part ≡ take 1 (take (u + 1 - k) (drop k rows)) ++ take (length (take (u + 1 - k) (drop k rows)) - 1) (take (u + 1 - k) (drop k rows))
-  → set (putMid k (u + 1 - k) rows part) k r ≡ inserted (take u rows) k r ++ drop (u + 1) rows
+    → part ≡ take 1 (take (u + 1 - k) (drop k rows)) ++ take (length (take (u + 1 - k) (drop k rows)) - 1) (take (u + 1 - k) (drop k rows))
+    → set (putMid k (u + 1 - k) rows part) k r ≡ inserted (take u rows) k r ++ drop (u + 1) rows
 insert-part rows part k u r le lt e =
     let x = getD rows k r in
     let m = u - k in
@@ -100,12 +100,12 @@ insert-part rows part k u r le lt e =
     let s : u + 1 - k ≡ suc m = omega arith in
     let front : drop k rows ≡ x ∷ drop (k + 1) rows = drop-more rows k r (omega arith) in
     let first : take 1 (take (u + 1 - k) (drop k rows)) ≡ x ∷ [] =
-        ap (λ n. take 1 (take n (drop k rows))) s ∙ ap (λ t. take 1 (take (suc m) t)) front in
+    ap (λ n. take 1 (take n (drop k rows))) s ∙ ap (λ t. take 1 (take (suc m) t)) front in
     let ld : length (drop k rows) ≡ length rows - k = length-drop k rows in
     let n : length (take (u + 1 - k) (drop k rows)) - 1 ≡ m =
-        let l : length (take (u + 1 - k) (drop k rows)) ≡ u + 1 - k = length-take-le (u + 1 - k) (drop k rows) (omega arith) in omega arith in
+    let l : length (take (u + 1 - k) (drop k rows)) ≡ u + 1 - k = length-take-le (u + 1 - k) (drop k rows) (omega arith) in omega arith in
     let others : take (length (take (u + 1 - k) (drop k rows)) - 1) (take (u + 1 - k) (drop k rows)) ≡ mid =
-        ap (λ q. take q (take (u + 1 - k) (drop k rows))) n ∙ take-take m (u + 1 - k) (drop k rows) (omega arith) in
+    ap (λ q. take q (take (u + 1 - k) (drop k rows))) n ∙ take-take m (u + 1 - k) (drop k rows) (omega arith) in
     let lk : length (take k rows) ≡ k = length-take-le k rows (omega arith) in
     let ku : k + m ≡ u = omega arith in
     let inner : drop k (take u rows) ≡ mid = ap (λ q. drop k (take q rows)) (sym ku) ∙ drop-take k m rows in
@@ -118,8 +118,8 @@ insert-part rows part k u r le lt e =
     ∙ sym (append-assoc (take k (take u rows)) (r ∷ drop k (take u rows)) (drop (u + 1) rows))
 
 pub remove-part : {R : Type 0} (rows part : List R) (k u : ℕ) (b : R) → k < u → u ≤ length rows
-  → part ≡ drop 1 (take (u - k) (drop k rows)) ++ drop (length (take (u - k) (drop k rows)) - 1) (take (u - k) (drop k rows))
-  → set (putMid k (u - k) rows part) (u - 1) b ≡ removed (take u rows) k ++ (b ∷ drop u rows)
+    → part ≡ drop 1 (take (u - k) (drop k rows)) ++ drop (length (take (u - k) (drop k rows)) - 1) (take (u - k) (drop k rows))
+    → set (putMid k (u - k) rows part) (u - 1) b ≡ removed (take u rows) k ++ (b ∷ drop u rows)
 remove-part rows part k u b lt le e =
     let m = u - k - 1 in
     let p = take (u - k) (drop k rows) in
@@ -127,7 +127,7 @@ remove-part rows part k u b lt le e =
     let lp : length p ≡ u - k = length-take-le (u - k) (drop k rows) (omega arith) in
     let y = getD p m b in
     let last : drop (length p - 1) p ≡ y ∷ [] =
-        ap (λ q. drop q p) (omega arith) ∙ drop-more p m b (omega arith) ∙ ap (λ t. y ∷ t) (drop-all (m + 1) p (omega arith)) in
+    ap (λ q. drop q p) (omega arith) ∙ drop-more p m b (omega arith) ∙ ap (λ t. y ∷ t) (drop-all (m + 1) p (omega arith)) in
     let body = drop 1 p in
     let rest = drop (u - k) (drop k rows) in
     let lk : length (take k rows) ≡ k = length-take-le k rows (omega arith) in
@@ -137,7 +137,7 @@ remove-part rows part k u b lt le e =
     let ku : k + (u - k) ≡ u = omega arith in
     let whole : drop k (take u rows) ≡ p = ap (λ q. drop k (take q rows)) (sym ku) ∙ drop-take k (u - k) rows in
     let inner : body ≡ drop (suc k) (take u rows) =
-        ap (drop 1) (sym whole) ∙ drop-drop 1 k (take u rows) ∙ ap (λ q. drop q (take u rows)) (add-one k) in
+    ap (drop 1) (sym whole) ∙ drop-drop 1 k (take u rows) ∙ ap (λ q. drop q (take u rows)) (add-one k) in
     ap (λ t. set (take k rows ++ (t ++ rest)) (u - 1) b) (e ∙ ap (λ t. body ++ t) last)
     ∙ ap (λ t. set (take k rows ++ t) (u - 1) b) (append-assoc body (y ∷ []) rest)
     ∙ ap (λ t. set t (u - 1) b) (sym (append-assoc (take k rows) body (y ∷ rest)))

@@ -198,7 +198,8 @@ impl<'a, R: Record> OrderedTable<'a, R> {
     pub fn used(&self) -> usize
         ensures { λ n. ⌜ n ≡ now (self .entry) .used ⌝ }
     {
-        self.used
+        let OrderedTable { used, .. } = self;
+        *used
     }
 
     // Where the record of r's key stands, or would go.

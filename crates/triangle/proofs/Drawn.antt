@@ -37,11 +37,11 @@ low-rowsOf z (suc n) f i j h lt =
     ⊎-elim
     (λ less. getD-append-left (rowsOf n f) row z (tri i + j) (omega (arith, low-below i j n h less)) ∙ low-rowsOf z n f i j h less)
     (λ ge.
-        let e : i ≡ n = omega arith in
-        let t : tri i ≡ tri n = ap tri e in
-        getD-append-right (rowsOf n f) row (tri n) (tri i + j) z l (omega arith)
-        ∙ getD-map-counting (λ b. f n b) 0 (suc n) (tri i + j - tri n) j z (omega arith) (omega arith)
-        ∙ ap (λ m. f m j) (sym e))
+    let e : i ≡ n = omega arith in
+    let t : tri i ≡ tri n = ap tri e in
+    getD-append-right (rowsOf n f) row (tri n) (tri i + j) z l (omega arith)
+    ∙ getD-map-counting (λ b. f n b) 0 (suc n) (tri i + j - tri n) j z (omega arith) (omega arith)
+    ∙ ap (λ m. f m j) (sym e))
     (cases-lt i n)
 
 -- lists that agree at each row and column are the same
@@ -49,9 +49,9 @@ pub by-low : {X : Type 0} (z : X) (p : ℕ) (xs ys : List X) → length xs ≡ t
 by-low z p xs ys lx ly e =
     ext-getD z xs ys (lx ∙ sym ly)
     (λ k h.
-        let (i, j, (le, at)) = row-and-column k in
-        let lt : i < p = below-low i j p le (omega arith) in
-        ap (λ m. getD xs m z) at ∙ e i j le lt ∙ sym (ap (λ m. getD ys m z) at))
+    let (i, j, (le, at)) = row-and-column k in
+    let lt : i < p = below-low i j p le (omega arith) in
+    ap (λ m. getD xs m z) at ∙ e i j le lt ∙ sym (ap (λ m. getD ys m z) at))
 
 module _ {X : Type 0} (z : X) (xs : List X) (p : ℕ) (long : length xs ≡ tri p) where
   -- a matrix that the list has
@@ -59,17 +59,17 @@ module _ {X : Type 0} (z : X) (xs : List X) (p : ℕ) (long : length xs ≡ tri 
   drawn-as f is =
       by-low z p xs (rowsOf p f) long (length-rowsOf p f)
       (λ i j le lt.
-          let m : max i j ≡ i = omega arith in
-          let n : min i j ≡ j = omega arith in
-          sym (ap (λ a. getD xs (tri a + min i j) z) m ∙ ap (λ b. getD xs (tri i + b) z) n) ∙ is i j ∙ sym (low-rowsOf z p f i j le lt))
+      let m : max i j ≡ i = omega arith in
+      let n : min i j ≡ j = omega arith in
+      sym (ap (λ a. getD xs (tri a + min i j) z) m ∙ ap (λ b. getD xs (tri i + b) z) n) ∙ is i j ∙ sym (low-rowsOf z p f i j le lt))
 
 -- lists of one length with the same cells are the same
 pub pinned : {X : Type 0} (z : X) (xs ys : List X) → length xs ≡ length ys → ((i j : ℕ) → cell z xs i j ≡ cell z ys i j) → xs ≡ ys
 pinned z xs ys len e =
     ext-getD z xs ys len
     (λ k h.
-        let (i, j, (le, at)) = row-and-column k in
-        let m : max i j ≡ i = omega arith in
-        let n : min i j ≡ j = omega arith in
-        let q : k ≡ spot i j = at ∙ sym (ap (λ a. tri a + min i j) m ∙ ap (λ b. tri i + b) n) in
-        ap (λ s. getD xs s z) q ∙ e i j ∙ sym (ap (λ s. getD ys s z) q))
+    let (i, j, (le, at)) = row-and-column k in
+    let m : max i j ≡ i = omega arith in
+    let n : min i j ≡ j = omega arith in
+    let q : k ≡ spot i j = at ∙ sym (ap (λ a. tri a + min i j) m ∙ ap (λ b. tri i + b) n) in
+    ap (λ s. getD xs s z) q ∙ e i j ∙ sym (ap (λ s. getD ys s z) q))

@@ -32,20 +32,21 @@ abbrev Pair : ℕ → ℕ → ℕ → ℕ → Type 0
 Pair i j a b = ((a ≡ i) × (b ≡ j)) ⊎ ((a ≡ j) × (b ≡ i))
 
 pub same-decides : (i j a b : ℕ) → Decides (same i j a b) (Pair i j a b)
-same-decides i j a b =
-    (λ e. let p = and-parts (eqb (max a b) (max i j)) (eqb (min a b) (min i j)) e in
-          let x = eqb-true (max a b) (max i j) (p .0) in
-          let y = eqb-true (min a b) (min i j) (p .1) in
-          ⊎-elim (λ q. inl (q, omega arith)) (λ ne. inr (omega arith, omega arith)) (cases-eq a i),
-    λ h. and-from (eqb (max a b) (max i j)) (eqb (min a b) (min i j)) (eq-eqb (max a b) (max i j) (omega arith)) (eq-eqb (min a b) (min i j) (omega arith)))
+same-decides i j a b = (
+  λ e. let p = and-parts (eqb (max a b) (max i j)) (eqb (min a b) (min i j)) e in
+      let x = eqb-true (max a b) (max i j) (p .0) in
+      let y = eqb-true (min a b) (min i j) (p .1) in
+      ⊎-elim (λ q. inl (q, omega arith)) (λ ne. inr (omega arith, omega arith)) (cases-eq a i),
+  λ h. and-from (eqb (max a b) (max i j)) (eqb (min a b) (min i j)) (eq-eqb (max a b) (max i j) (omega arith)) (eq-eqb (min a b) (min i j) (omega arith)),
+)
 
 pub renumbered : Renumbered
 renumbered n ρ inj i j p q hi hj hp hq =
     same-from-decides (same (rankOf ρ i) (rankOf ρ j) (rankOf ρ p) (rankOf ρ q)) (same i j p q)
     (decides-like (same (rankOf ρ i) (rankOf ρ j) (rankOf ρ p) (rankOf ρ q))
-        (λ h. ⊎-elim (λ u. inl (inj p i hp hi (u .0), inj q j hq hj (u .1))) (λ u. inr (inj p j hp hj (u .0), inj q i hq hi (u .1))) h)
-        (λ h. ⊎-elim (λ u. inl (ap (rankOf ρ) (u .0), ap (rankOf ρ) (u .1))) (λ u. inr (ap (rankOf ρ) (u .0), ap (rankOf ρ) (u .1))) h)
-        (same-decides (rankOf ρ i) (rankOf ρ j) (rankOf ρ p) (rankOf ρ q)))
+    (λ h. ⊎-elim (λ u. inl (inj p i hp hi (u .0), inj q j hq hj (u .1))) (λ u. inr (inj p j hp hj (u .0), inj q i hq hi (u .1))) h)
+    (λ h. ⊎-elim (λ u. inl (ap (rankOf ρ) (u .0), ap (rankOf ρ) (u .1))) (λ u. inr (ap (rankOf ρ) (u .0), ap (rankOf ρ) (u .1))) h)
+    (same-decides (rankOf ρ i) (rankOf ρ j) (rankOf ρ p) (rankOf ρ q)))
     (same-decides i j p q)
 
 same-swap : (i j a b : ℕ) → same i j a b ≡ same i j b a
@@ -90,10 +91,10 @@ module _ (X : Type 0) (void : X → Bool) where
           ⊎-elim
           (λ z. zero-at z a b ∙ sy a b ∙ sym (zero-at z b a))
           (λ nz.
-              new-at nz a b
-              ∙ ap (λ t. cond t (e .value) (f a b)) (same-swap i j a b)
-              ∙ ap (λ x. cond (same i j b a) (e .value) x) (sy a b)
-              ∙ sym (new-at nz b a))
+          new-at nz a b
+          ∙ ap (λ t. cond t (e .value) (f a b)) (same-swap i j a b)
+          ∙ ap (λ x. cond (same i j b a) (e .value) x) (sy a b)
+          ∙ sym (new-at nz b a))
           (cases-bool (void (e .value)))
 
       stated-keeps : Symmetric f → may f e ≡ true → (a b : ℕ) → void (f a b) ≡ false → stated void ρ f e a b ≡ f a b
@@ -101,18 +102,18 @@ module _ (X : Type 0) (void : X → Bool) where
           ⊎-elim
           (λ z. zero-at z a b)
           (λ nz.
-              let i = rankOf ρ (e .row) in
-              let j = rankOf ρ (e .column) in
-              let fr = free-void void ρ count side len f e (sound-free ok nz) in
-              new-at nz a b
-              ∙ ⊎-elim
-                (λ s. absurd (both-ways (void (f a b)) h
-                    (⊎-elim
-                        (λ (u : (a ≡ i) × (b ≡ j)). ap (λ k. void (f k b)) (u .0) ∙ ap (λ k. void (f i k)) (u .1) ∙ fr)
-                        (λ (u : (a ≡ j) × (b ≡ i)). ap (λ k. void (f k b)) (u .0) ∙ ap (λ k. void (f j k)) (u .1) ∙ ap void (sy j i) ∙ fr)
-                        (same-decides i j a b .0 s))))
-                (λ d. cond-false (same i j a b) (e .value) (f a b) d)
-                (cases-bool (same i j a b)))
+          let i = rankOf ρ (e .row) in
+          let j = rankOf ρ (e .column) in
+          let fr = free-void void ρ count side len f e (sound-free ok nz) in
+          new-at nz a b
+          ∙ ⊎-elim
+          (λ s. absurd (both-ways (void (f a b)) h
+          (⊎-elim
+          (λ (u : (a ≡ i) × (b ≡ j)). ap (λ k. void (f k b)) (u .0) ∙ ap (λ k. void (f i k)) (u .1) ∙ fr)
+          (λ (u : (a ≡ j) × (b ≡ i)). ap (λ k. void (f k b)) (u .0) ∙ ap (λ k. void (f j k)) (u .1) ∙ ap void (sy j i) ∙ fr)
+          (same-decides i j a b .0 s))))
+          (λ d. cond-false (same i j a b) (e .value) (f a b) d)
+          (cases-bool (same i j a b)))
           (cases-bool (void (e .value)))
 
     -- a cell that is not zero keeps its value
@@ -121,29 +122,29 @@ module _ (X : Type 0) (void : X → Bool) where
     keep f (e ∷ es) sy a b h =
         ⊎-elim
         (λ ok.
-            let st = stated-keeps f e es sy ok a b h in
-            run-ok f e es ok a b ∙ keep (stated void ρ f e) es (stated-symmetric f e es sy) a b (ap void st ∙ h) ∙ st)
+        let st = stated-keeps f e es sy ok a b h in
+        run-ok f e es ok a b ∙ keep (stated void ρ f e) es (stated-symmetric f e es sy) a b (ap void st ∙ h) ∙ st)
         (λ bad. run-bad f e es bad a b)
         (cases-bool (may f e))
 
     others : (f : ℕ → ℕ → X) (es : List (Element X)) (a b : ℕ)
-      → ((k : ℕ) (d : Element X) → k < length es → void (getD es k d .value) ≡ false → same (rankOf ρ (getD es k d .row)) (rankOf ρ (getD es k d .column)) a b ≡ false)
-      → all f es a b ≡ f a b
+        → ((k : ℕ) (d : Element X) → k < length es → void (getD es k d .value) ≡ false → same (rankOf ρ (getD es k d .row)) (rankOf ρ (getD es k d .column)) a b ≡ false)
+        → all f es a b ≡ f a b
     others f [] a b h = refl
     others f (e ∷ es) a b h =
         ⊎-elim
         (λ ok.
-            run-ok f e es ok a b
-            ∙ others (stated void ρ f e) es a b (λ k d l z. h (suc k) d (omega arith) z)
-            ∙ ⊎-elim
-              (λ z. zero-at f e es z a b)
-              (λ nz. new-at f e es nz a b ∙ cond-false _ (e .value) (f a b) (h 0 e (omega arith) nz))
-              (cases-bool (void (e .value))))
+        run-ok f e es ok a b
+        ∙ others (stated void ρ f e) es a b (λ k d l z. h (suc k) d (omega arith) z)
+        ∙ ⊎-elim
+        (λ z. zero-at f e es z a b)
+        (λ nz. new-at f e es nz a b ∙ cond-false _ (e .value) (f a b) (h 0 e (omega arith) nz))
+        (cases-bool (void (e .value))))
         (λ bad. run-bad f e es bad a b)
         (cases-bool (may f e))
 
     each : (f : ℕ → ℕ → X) (es : List (Element X)) → Symmetric f → taken void ρ count side len f es ≡ length es → (k : ℕ) (d : Element X) → k < length es
-      → void (getD es k d .value) ≡ false → all f es (rankOf ρ (getD es k d .row)) (rankOf ρ (getD es k d .column)) ≡ getD es k d .value
+        → void (getD es k d .value) ≡ false → all f es (rankOf ρ (getD es k d .row)) (rankOf ρ (getD es k d .column)) ≡ getD es k d .value
     each f [] sy n k d h nz = absurd (omega arith)
     each f (e ∷ es) sy n zero d h nz =
         let ok = all-sound f e es n .0 in
@@ -167,7 +168,7 @@ module _ (X : Type 0) (void : X → Bool) where
 
     -- where all may be stated, those that are not zero have row and column within the count
     all-inside : (f : ℕ → ℕ → X) (es : List (Element X)) → taken void ρ count side len f es ≡ length es → (k : ℕ) (d : Element X) → k < length es
-      → void (getD es k d .value) ≡ false → inside (min count (length ρ)) (getD es k d .row) (getD es k d .column) ≡ true
+        → void (getD es k d .value) ≡ false → inside (min count (length ρ)) (getD es k d .row) (getD es k d .column) ≡ true
     all-inside f [] n k d h nz = absurd (omega arith)
     all-inside f (e ∷ es) n zero d h nz =
         and-parts (inside (min count (length ρ)) (e .row) (e .column)) (onSide side (e .row) (e .column))
@@ -183,24 +184,24 @@ module _ (X : Type 0) (void : X → Bool) where
   pub by-index : By-index X void
   by-index ρ count side len f es sy inj n i j hi hj = record {
     found = λ k d h (nz, s).
-      ⊎-elim
-      (λ (u : (i ≡ getD es k d .row) × (j ≡ getD es k d .column)).
-          ap (λ t. run void ρ count side len f es (rankOf ρ t) (rankOf ρ j)) (u .0)
-          ∙ ap (λ t. run void ρ count side len f es (rankOf ρ (getD es k d .row)) (rankOf ρ t)) (u .1)
-          ∙ each ρ count side len f es sy n k d h nz)
-      (λ (u : (i ≡ getD es k d .column) × (j ≡ getD es k d .row)).
-          symmetric ρ count side len f es sy (rankOf ρ i) (rankOf ρ j)
-          ∙ ap (λ t. run void ρ count side len f es (rankOf ρ t) (rankOf ρ i)) (u .1)
-          ∙ ap (λ t. run void ρ count side len f es (rankOf ρ (getD es k d .row)) (rankOf ρ t)) (u .0)
-          ∙ each ρ count side len f es sy n k d h nz)
-      (same-decides (getD es k d .row) (getD es k d .column) i j .0 s);
+        ⊎-elim
+        (λ (u : (i ≡ getD es k d .row) × (j ≡ getD es k d .column)).
+        ap (λ t. run void ρ count side len f es (rankOf ρ t) (rankOf ρ j)) (u .0)
+        ∙ ap (λ t. run void ρ count side len f es (rankOf ρ (getD es k d .row)) (rankOf ρ t)) (u .1)
+        ∙ each ρ count side len f es sy n k d h nz)
+        (λ (u : (i ≡ getD es k d .column) × (j ≡ getD es k d .row)).
+        symmetric ρ count side len f es sy (rankOf ρ i) (rankOf ρ j)
+        ∙ ap (λ t. run void ρ count side len f es (rankOf ρ t) (rankOf ρ i)) (u .1)
+        ∙ ap (λ t. run void ρ count side len f es (rankOf ρ (getD es k d .row)) (rankOf ρ t)) (u .0)
+        ∙ each ρ count side len f es sy n k d h nz)
+        (same-decides (getD es k d .row) (getD es k d .column) i j .0 s);
     none = λ absent.
-      others ρ count side len f es (rankOf ρ i) (rankOf ρ j)
-      (λ k d h nz.
-          let m = min count (length ρ) in
-          let (p, q) = and-parts (counted m (getD es k d .row)) (counted m (getD es k d .column)) (all-inside ρ count side len f es n k d h nz) in
-          renumbered m ρ inj (getD es k d .row) (getD es k d .column) i j p q hi hj
-          ∙ ⊎-elim (λ s. absurd (absent k d h (nz, s))) (λ t. t) (cases-bool (same (getD es k d .row) (getD es k d .column) i j)));
+        others ρ count side len f es (rankOf ρ i) (rankOf ρ j)
+        (λ k d h nz.
+        let m = min count (length ρ) in
+        let (p, q) = and-parts (counted m (getD es k d .row)) (counted m (getD es k d .column)) (all-inside ρ count side len f es n k d h nz) in
+        renumbered m ρ inj (getD es k d .row) (getD es k d .column) i j p q hi hj
+        ∙ ⊎-elim (λ s. absurd (absent k d h (nz, s))) (λ t. t) (cases-bool (same (getD es k d .row) (getD es k d .column) i j)));
   }
 
 -- ---- ranks

@@ -18,7 +18,7 @@ use Rattle.triangle.specs.Statements.{rankIn, allKnown, fillAnswer, fillRow}
 
 -- one place more is filled
 pub fill-more : {R : Type 0} (f : R → ℕ) (rs : List R) (row : List ℕ) (i : ℕ) (x : R) → i < length rs → length rs ≤ length row → x ≡ getD rs i x
-  → set (map f (take i rs) ++ drop i row) i (f x) ≡ map f (take (i + 1) rs) ++ drop (i + 1) row
+    → set (map f (take i rs) ++ drop i row) i (f x) ≡ map f (take (i + 1) rs) ++ drop (i + 1) row
 fill-more f rs row i x lt le read =
     let m : length (map f (take i rs)) ≡ i = length-map (take i rs) f ∙ length-take-le i rs (omega arith) in
     ap (λ t. set (map f (take i rs) ++ t) i (f x)) (drop-more row i 0 (omega arith))

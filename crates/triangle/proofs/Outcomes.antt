@@ -12,9 +12,9 @@ use Rattle.triangle.proofs.Drawn.{drawn-as}
 module _ {X : Type 0} (z : X) (xs ys : List X) (long : length ys ≡ length xs) (done : ℕ → ℕ → X) where
   abbrev pub Outcome : Bool → Type 0
   Outcome b =
-    ((i j : ℕ) → cell z ys i j ≡ cond b (done i j) (cell z xs i j))
-    × ((p : ℕ) → length xs ≡ tri p → ys ≡ rowsOf p (λ i j. cond b (done i j) (cell z xs i j)))
-    × (b ≡ false → ys ≡ xs)
+      ((i j : ℕ) → cell z ys i j ≡ cond b (done i j) (cell z xs i j))
+      × ((p : ℕ) → length xs ≡ tri p → ys ≡ rowsOf p (λ i j. cond b (done i j) (cell z xs i j)))
+      × (b ≡ false → ys ≡ xs)
 
   pub granted : (b : Bool) → true ≡ b → ((i j : ℕ) → cell z ys i j ≡ done i j) → Outcome b
   granted b t is =

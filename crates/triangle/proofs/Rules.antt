@@ -19,7 +19,7 @@ use Rattle.triangle.proofs.Lifts.{skip-jump, jump-not}
 pub places : Places
 places = record {
   one = λ i j a b e.
-    and-from (eqb (max a b) (max i j)) (eqb (min a b) (min i j)) (eq-eqb (max a b) (max i j) (spot-max i j a b e)) (eq-eqb (min a b) (min i j) (spot-min i j a b e));
+      and-from (eqb (max a b) (max i j)) (eqb (min a b) (min i j)) (eq-eqb (max a b) (max i j) (spot-max i j a b e)) (eq-eqb (min a b) (min i j) (spot-min i j a b e));
   either = λ i j. ap (λ m. tri m + min i j) (max-comm i j) ∙ ap (λ m. tri (max j i) + m) (min-comm i j);
   within = λ p i j lt. low-below (max i j) (min i j) p (omega arith) lt;
 }
@@ -34,7 +34,7 @@ module _ {X : Type 0} (z : X) (f : ℕ → ℕ → X) (n r : ℕ) where
   opened-is hr bl i j =
       ⊎-elim
       (λ lt. let p : n ≤ max (skip r i) (skip r j) = grind (arith, tells) in
-             grind (arith, tells, bl i j (omega arith), bl (skip r i) (skip r j) p))
+      grind (arith, tells, bl i j (omega arith), bl (skip r i) (skip r j) p))
       (λ ge. grind (arith, tells))
       (cases-lt n (max i j))
 
@@ -46,10 +46,10 @@ module _ {X : Type 0} (z : X) (f : ℕ → ℕ → X) (n r : ℕ) where
       ⊎-elim
       (λ lt. grind (arith, tells))
       (λ ge. let p : n ≤ max (jump r i) (jump r j) = grind (arith, tells) in
-             ⊎-elim
-             (λ e. grind (arith, tells, bl (jump r i) (jump r j) p))
-             (λ ne. grind (arith, tells, bl i j (omega arith), bl (jump r i) (jump r j) p))
-             (cases-eq (max i j + 1) n))
+      ⊎-elim
+      (λ e. grind (arith, tells, bl (jump r i) (jump r j) p))
+      (λ ne. grind (arith, tells, bl i j (omega arith), bl (jump r i) (jump r j) p))
+      (cases-eq (max i j + 1) n))
       (cases-lt (max i j + 1) n)
 
   closed-blank : r < n → Blank z n f → Blank z (n - 1) (closed z n r f)

@@ -30,7 +30,7 @@ err-false false e d q = refl
 module _ {X : Type 0} (void : X → Bool) (ρ : List ℕ) (count : ℕ) (side : Side) (len : ℕ) where
   module _ (f : ℕ → ℕ → X) (e : Element X) where
     free-parts : free void ρ count side len f e ≡ true
-      → (seen len (rankOf ρ (e .row)) (rankOf ρ (e .column)) ≡ true) × (void (f (rankOf ρ (e .row)) (rankOf ρ (e .column))) ≡ true)
+        → (seen len (rankOf ρ (e .row)) (rankOf ρ (e .column)) ≡ true) × (void (f (rankOf ρ (e .row)) (rankOf ρ (e .column))) ≡ true)
     free-parts t =
         and-parts (seen len (rankOf ρ (e .row)) (rankOf ρ (e .column))) (void (f (rankOf ρ (e .row)) (rankOf ρ (e .column))))
         (and-parts (inside (min count (length ρ)) (e .row) (e .column) && onSide side (e .row) (e .column)) _ t .1)
@@ -62,17 +62,18 @@ module _ {X : Type 0} (void : X → Bool) (ρ : List ℕ) (count : ℕ) (side : 
     first k x h read = drop-more es k x h ∙ ap (λ y. y ∷ drop (k + 1) es) (sym read)
 
     pub left-more : (f f′ : ℕ → ℕ → X) (k : ℕ) (x : Element X) → k < length es → x ≡ getD es k x → sound void ρ count side len f x ≡ true
-      → ((a b : ℕ) → f′ a b ≡ stated void ρ f x a b) → Left f k → Left f′ (k + 1)
+        → ((a b : ℕ) → f′ a b ≡ stated void ρ f x a b) → Left f k → Left f′ (k + 1)
     left-more f f′ k x h read ok is (p, q) =
         let same : f′ ≡ stated void ρ f x = fun-ext (λ a. fun-ext (λ b. is a b)) in
         let m = first k x h read in
         let u : run void ρ count side len f (drop k es) ≡ run void ρ count side len (stated void ρ f x) (drop (k + 1) es) = ap (run void ρ count side len f) m ∙ cond-true _ _ _ ok in
-        let v : taken void ρ count side len f (drop k es) ≡ suc (taken void ρ count side len (stated void ρ f x) (drop (k + 1) es)) = ap (taken void ρ count side len f) m ∙ cond-true _ _ _ ok in
-        (ap (λ (h : ℕ → ℕ → X). run void ρ count side len h (drop (k + 1) es)) same ∙ sym u ∙ p,
-         omega (arith, ap (λ (h : ℕ → ℕ → X). taken void ρ count side len h (drop (k + 1) es)) same, v, q))
+        let v : taken void ρ count side len f (drop k es) ≡ suc (taken void ρ count side len (stated void ρ f x) (drop (k + 1) es)) = ap (taken void ρ count side len f) m ∙ cond-true _ _ _ ok in (
+          ap (λ (h : ℕ → ℕ → X). run void ρ count side len h (drop (k + 1) es)) same ∙ sym u ∙ p,
+          omega (arith, ap (λ (h : ℕ → ℕ → X). taken void ρ count side len h (drop (k + 1) es)) same, v, q),
+        )
 
     pub left-stop : (f : ℕ → ℕ → X) (k : ℕ) (x : Element X) → k < length es → x ≡ getD es k x → sound void ρ count side len f x ≡ false
-      → Left f k → (f ≡ run void ρ count side len f₀ es) × (k ≡ taken void ρ count side len f₀ es)
+        → Left f k → (f ≡ run void ρ count side len f₀ es) × (k ≡ taken void ρ count side len f₀ es)
     left-stop f k x h read bad (p, q) =
         let m = first k x h read in
         let u : run void ρ count side len f (drop k es) ≡ f = ap (run void ρ count side len f) m ∙ cond-false _ _ _ bad in

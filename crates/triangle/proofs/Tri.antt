@@ -67,7 +67,7 @@ module _ {X : Type 0} (z : X) (xs : List X) (p i j : ℕ) (v : X) (e : p ≡ tri
 
 -- a copy from the place q of row s and column t to the place p of row i and column j
 pub low-move-same : {X : Type 0} (z : X) (xs : List X) (p i j q s t : ℕ) → p ≡ tri i + j → q ≡ tri s + t → p < length xs
-  → low z (set xs p (getD xs q z)) i j ≡ low z xs s t
+    → low z (set xs p (getD xs q z)) i j ≡ low z xs s t
 low-move-same z xs p i j q s t e f h = low-put-same z xs p i j (getD xs q z) e h ∙ ap (λ k. getD xs k z) f
 
 -- two cells have one place only if they are the same cell
@@ -82,24 +82,24 @@ cell-sym z xs i j = rw (max-comm i j, min-comm i j) refl
 
 -- a write changes one cell
 pub cell-set : {X : Type 0} (z : X) (xs : List X) (i j : ℕ) (v : X) → spot i j < length xs → (a b : ℕ)
-  → cell z (set xs (spot i j) v) a b ≡ cond (same i j a b) v (cell z xs a b)
+    → cell z (set xs (spot i j) v) a b ≡ cond (same i j a b) v (cell z xs a b)
 cell-set z xs i j v h a b =
     ⊎-elim
     (λ e. let p = spot-max i j a b e in
-          let q = spot-min i j a b e in
-          ap (λ k. getD (set xs (spot i j) v) k z) e ∙ getD-set-same xs (spot i j) v z h
-          ∙ sym (simp (eq-eqb (max a b) (max i j) p, eq-eqb (min a b) (min i j) q)))
+    let q = spot-min i j a b e in
+    ap (λ k. getD (set xs (spot i j) v) k z) e ∙ getD-set-same xs (spot i j) v z h
+    ∙ sym (simp (eq-eqb (max a b) (max i j) p, eq-eqb (min a b) (min i j) q)))
     (λ ne. getD-set-other xs (spot i j) (spot a b) v z ne
-          ∙ sym (cond-false (same i j a b) v (cell z xs a b) (different ne)))
+    ∙ sym (cond-false (same i j a b) v (cell z xs a b) (different ne)))
     (cases-eq (spot a b) (spot i j))
   where
     different : (spot a b ≡ spot i j → ⊥) → same i j a b ≡ false
     different ne =
         ⊎-elim
         (λ p. ⊎-elim
-            (λ q. absurd (ne (ap (λ k. tri k + min a b) p ∙ ap (λ k. tri (max i j) + k) q)))
-            (λ nq. and-right (eqb (max a b) (max i j)) (eqb (min a b) (min i j)) (ne-eqb (min a b) (min i j) nq))
-            (cases-eq (min a b) (min i j)))
+        (λ q. absurd (ne (ap (λ k. tri k + min a b) p ∙ ap (λ k. tri (max i j) + k) q)))
+        (λ nq. and-right (eqb (max a b) (max i j)) (eqb (min a b) (min i j)) (ne-eqb (min a b) (min i j) nq))
+        (cases-eq (min a b) (min i j)))
         (λ np. and-left (eqb (max a b) (max i j)) (eqb (min a b) (min i j)) (ne-eqb (max a b) (max i j) np))
         (cases-eq (max a b) (max i j))
 

@@ -24,12 +24,12 @@ Moved X = (f : ℕ → ℕ → X) (n r i j : ℕ) → r ≤ n → i < n → j < 
 -- a rank opened: the new rank's cells are z, those between others keep their values under the shifted ranks, and all past the last row is z
 abbrev pub Opened : (X : Type 0) → X → Type 0
 Opened X z = (f : ℕ → ℕ → X) (n r : ℕ) → r ≤ n → Blank z n f
-  → ((i j : ℕ) → opened z n r f i j ≡ cond (eqb i r || eqb j r) z (f (skip r i) (skip r j))) × Blank z (n + 1) (opened z n r f)
+    → ((i j : ℕ) → opened z n r f i j ≡ cond (eqb i r || eqb j r) z (f (skip r i) (skip r j))) × Blank z (n + 1) (opened z n r f)
 
 -- a rank closed: the cells between others keep their values under the shifted ranks, and all past the last row is z
 abbrev pub Closed : (X : Type 0) → X → Type 0
 Closed X z = (f : ℕ → ℕ → X) (n r : ℕ) → r < n → Blank z n f
-  → ((i j : ℕ) → closed z n r f i j ≡ f (jump r i) (jump r j)) × Blank z (n - 1) (closed z n r f)
+    → ((i j : ℕ) → closed z n r f i j ≡ f (jump r i) (jump r j)) × Blank z (n - 1) (closed z n r f)
 
 -- a rank opened and closed again
 abbrev pub Undone : (X : Type 0) → X → Type 0

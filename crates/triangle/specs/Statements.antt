@@ -45,8 +45,8 @@ fillAnswer cmp used rows n rs = cond (leb used 2000) (cond (leb (length rs) n) (
 abbrev pub fillRow : {R : Type 0} → (R → R → Ordering) → ℕ → List R → List ℕ → List R → List ℕ
 fillRow cmp used rows row rs =
     cond (leb used 2000 && leb (length rs) (length row))
-        (cond (allKnown cmp used rows rs) (map (rankIn cmp used rows) rs ++ drop (length rs) row) (replicate (length row) 0))
-        row
+    (cond (allKnown cmp used rows rs) (map (rankIn cmp used rows) rs ++ drop (length rs) row) (replicate (length row) 0))
+    row
 
 -- ---- elements
 

@@ -33,7 +33,8 @@ pub trait Cell: Copy {
 // How many places i rows take.
 pub(crate) fn rows(i: usize) -> usize
     requires { ⌜ i ≤ 2000 ⌝ }
-    ensures { λ r. ⌜ r ≡ tri i ⌝ }
+    ensures count { λ r. ⌜ r ≡ tri i ⌝ }
+    ensures bound { λ r. ⌜ r ≤ 2001000 ⌝ }
 {
     i * (i + 1) / 2
 }
@@ -50,7 +51,11 @@ fn place(i: usize, j: usize) -> usize
 pub fn triangle_places(ranks: usize) -> Option<usize>
     ensures { λ n. ⌜ n ≡ cond (leb ranks 2000) (Some (tri ranks)) None ⌝ }
 {
-    if ranks <= RANKS { Some(rows(ranks)) } else { None }
+    if ranks <= RANKS {
+        Some(rows(ranks))
+    } else {
+        None
+    }
 }
 
 // Whether n rows are allowed, and fit that many places.

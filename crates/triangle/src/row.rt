@@ -48,7 +48,13 @@ fn write_rank<R: Record>(row: &mut [u32], i: usize, rows: &[R], used: usize, r: 
 }
 
 // Notes the rank of the record that a file has at this index.
-pub fn rank_record<R: Record>(row: &mut [u32], index: usize, rows: &[R], used: usize, r: &R) -> Result<(), Fault>
+pub fn rank_record<R: Record>(
+    row: &mut [u32],
+    index: usize,
+    rows: &[R],
+    used: usize,
+    r: &R,
+) -> Result<(), Fault>
     ensures answer { λ a. ⌜ a ≡ rankAnswer (R·Record .order) used (now (rows .entry)) (length (now (row .entry))) index (now (r .entry)) ⌝ }
     ensures row { λ _. ⌜ now (row .exit) ≡ cond (rankGranted (R·Record .order) used (now (rows .entry)) (length (now (row .entry))) index (now (r .entry))) (set (now (row .entry)) (index - 1) (rankIn (R·Record .order) used (now (rows .entry)) (now (r .entry)))) (now (row .entry)) ⌝ }
 {
@@ -58,7 +64,11 @@ pub fn rank_record<R: Record>(row: &mut [u32], index: usize, rows: &[R], used: u
     if !within(row.len(), index) {
         return Err(Fault::OutOfStep);
     }
-    if write_rank(row, index - 1, rows, used, r) { Ok(()) } else { Err(Fault::RecordAbsent) }
+    if write_rank(row, index - 1, rows, used, r) {
+        Ok(())
+    } else {
+        Err(Fault::RecordAbsent)
+    }
 }
 
 // Whether the index is one of 1 to n.
@@ -76,7 +86,12 @@ pub fn clear_row(row: &mut [u32])
 }
 
 // Notes the ranks of the records in a file's order. Where one is absent the row is zero.
-pub fn fill_row<R: Record>(row: &mut [u32], rows: &[R], used: usize, records: &[R]) -> Result<(), Fault>
+pub fn fill_row<R: Record>(
+    row: &mut [u32],
+    rows: &[R],
+    used: usize,
+    records: &[R],
+) -> Result<(), Fault>
     ensures answer { λ a. ⌜ a ≡ fillAnswer (R·Record .order) used (now (rows .entry)) (length (now (row .entry))) (now (records .entry)) ⌝ }
     ensures row { λ _. ⌜ now (row .exit) ≡ fillRow (R·Record .order) used (now (rows .entry)) (now (row .entry)) (now (records .entry)) ⌝ }
 {
@@ -120,14 +135,24 @@ fn is_free<T: Cell>(cells: &[T], ranks: &[u32], count: usize, side: Side, e: &El
     if !within_count(count.min(ranks.len()), e.row, e.column) || !on_side(side, e.row, e.column) {
         return false;
     }
-    match get_cell(cells, ranks[e.row - 1] as usize, ranks[e.column - 1] as usize) {
+    match get_cell(
+        cells,
+        ranks[e.row - 1] as usize,
+        ranks[e.column - 1] as usize,
+    ) {
         Some(before) => before.is_zero(),
         None => false,
     }
 }
 
 // States an element of an L or a U file at the ranks of its row and column. Zero states nothing; a cell that is not free is refused.
-pub fn state_cell<T: Cell>(cells: &mut [T], ranks: &[u32], count: usize, side: Side, e: Element<T>) -> Result<(), Fault>
+pub fn state_cell<T: Cell>(
+    cells: &mut [T],
+    ranks: &[u32],
+    count: usize,
+    side: Side,
+    e: Element<T>,
+) -> Result<(), Fault>
     ensures answer { λ a. ⌜ a ≡ cond (sound (T·Cell .isNought) (now (ranks .entry)) count side (length (now (cells .entry))) (cell (T·Cell .nought) (now (cells .entry))) e) (Ok tt) (Err WrongCell) ⌝ }
     ensures list { λ _. ⌜ now (cells .exit) ≡ cond (not (T·Cell .isNought (e .value)) && free (T·Cell .isNought) (now (ranks .entry)) count side (length (now (cells .entry))) (cell (T·Cell .nought) (now (cells .entry))) e) (set (now (cells .entry)) (spot (rankOf (now (ranks .entry)) (e .row)) (rankOf (now (ranks .entry)) (e .column))) (e .value)) (now (cells .entry)) ⌝ }
     ensures matrix { λ _. ⌜ ((a b : ℕ) → cell (T·Cell .nought) (now (cells .exit)) a b ≡ cond (sound (T·Cell .isNought) (now (ranks .entry)) count side (length (now (cells .entry))) (cell (T·Cell .nought) (now (cells .entry))) e) (stated (T·Cell .isNought) (now (ranks .entry)) (cell (T·Cell .nought) (now (cells .entry))) e a b) (cell (T·Cell .nought) (now (cells .entry)) a b)) ⌝ }
@@ -138,11 +163,22 @@ pub fn state_cell<T: Cell>(cells: &mut [T], ranks: &[u32], count: usize, side: S
     if !is_free(cells, ranks, count, side, &e) {
         return Err(Fault::WrongCell);
     }
-    set_cell(cells, ranks[e.row - 1] as usize, ranks[e.column - 1] as usize, e.value)
+    set_cell(
+        cells,
+        ranks[e.row - 1] as usize,
+        ranks[e.column - 1] as usize,
+        e.value,
+    )
 }
 
 // States the elements up to the first that may not be stated, and says how many these are.
-pub fn state_all<T: Cell>(cells: &mut [T], ranks: &[u32], count: usize, side: Side, elements: &[Element<T>]) -> usize
+pub fn state_all<T: Cell>(
+    cells: &mut [T],
+    ranks: &[u32],
+    count: usize,
+    side: Side,
+    elements: &[Element<T>],
+) -> usize
     ensures answer { λ n. ⌜ n ≡ taken (T·Cell .isNought) (now (ranks .entry)) count side (length (now (cells .entry))) (cell (T·Cell .nought) (now (cells .entry))) (now (elements .entry)) ⌝ }
     ensures matrix { λ _. ⌜ ((a b : ℕ) → cell (T·Cell .nought) (now (cells .exit)) a b ≡ run (T·Cell .isNought) (now (ranks .entry)) count side (length (now (cells .entry))) (cell (T·Cell .nought) (now (cells .entry))) (now (elements .entry)) a b) ⌝ }
 {

@@ -17,10 +17,11 @@ loop-i-again g c =
     let e : i ≡ i - 1 + 1 = omega arith in
     let top : i ≤ u = omega arith in
     let long : u + 1 ≡ length start = omega arith in
-    let done = c .raise .ensures d in
-    (omega arith,
-     ap (take (i - 1 + 1)) done ∙ rise-take (c .loop-i .part) start u i (i - 1) d e top long (c .loop-i .kept .part) (c .loop-i .inv .1),
-     ap (drop (i - 1 + 1)) done ∙ rise-drop (c .loop-i .part) start u i (i - 1) d e top long (c .loop-i .kept .part) (c .loop-i .inv .1) (c .loop-i .inv .2))
+    let done = c .raise .ensures d in (
+      omega arith,
+      ap (take (i - 1 + 1)) done ∙ rise-take (c .loop-i .part) start u i (i - 1) d e top long (c .loop-i .kept .part) (c .loop-i .inv .1),
+      ap (drop (i - 1 + 1)) done ∙ rise-drop (c .loop-i .part) start u i (i - 1) d e top long (c .loop-i .kept .part) (c .loop-i .inv .1) (c .loop-i .inv .2),
+    )
 
 pub returns : need.returns
 returns g c = rise-end (c .loop-i .part) (c .args .part .now) (c .loop-i .i) (length (c .args .part .now) - 1) (omega arith) refl (c .loop-i .inv .1) (c .loop-i .inv .2)

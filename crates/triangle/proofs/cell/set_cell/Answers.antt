@@ -23,7 +23,7 @@ returns-then-k-cells g c =
       answer = sym (cond-true (seen (length xs) i j) _ _ s);
       list = ap (λ k. set xs k (c .args .v)) e ∙ sym (cond-true (seen (length xs) i j) _ _ s);
       matrix = λ a b.
-        ap (λ k. cell z (set xs k (c .args .v)) a b) e
-        ∙ cell-set z xs i j (c .args .v) h a b
-        ∙ sym (ap (λ t. cond (t && same i j a b) (c .args .v) (cell z xs a b)) s);
+          ap (λ k. cell z (set xs k (c .args .v)) a b) e
+          ∙ cell-set z xs i j (c .args .v) h a b
+          ∙ sym (ap (λ t. cond (t && same i j a b) (c .args .v) (cell z xs a b)) s);
     }

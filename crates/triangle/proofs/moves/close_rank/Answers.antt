@@ -37,5 +37,5 @@ returns g c =
     let p = closable-parts (length xs) n r (c .if-not-can-close .ensures tt) in
     let lt : r < n = p .2 in
     let o = granted z xs ys (c .wipe-row .kept .cells ∙ c .sink .kept .cells) (closed z n r (cell z xs)) b (c .if-not-can-close .ensures tt)
-            (closed-from-low z (low z xs) (low z (c .sink .last .cells)) (low z ys) n r lt (c .sink .ensures) (c .wipe-row .ensures)) in
+    (closed-from-low z (low z xs) (low z (c .sink .last .cells)) (low z ys) n r lt (c .sink .ensures) (c .wipe-row .ensures)) in
     record { answer = sym (cond-true b _ _ (sym (c .if-not-can-close .ensures tt))); matrix = o .0; list = o .1; refused = o .2 }

@@ -30,5 +30,5 @@ returns g c =
     let xs = c .args .cells .now in
     let b = openable (length xs) n r in
     let o = granted z xs (c .wipe .last .cells) (c .wipe .kept .cells ∙ c .lift .kept .cells) (opened z n r (cell z xs)) b (c .if-not-can-open .ensures tt)
-            (λ i j. c .wipe .ensures i j ∙ ap (λ v. cond (fresh n r i j) z v) (c .lift .ensures i j)) in
+    (λ i j. c .wipe .ensures i j ∙ ap (λ v. cond (fresh n r i j) z v) (c .lift .ensures i j)) in
     record { answer = sym (cond-true b _ _ (sym (c .if-not-can-open .ensures tt))); matrix = o .0; list = o .1; refused = o .2 }

@@ -18,13 +18,14 @@ loop-i-again g c =
     let i = c .loop-i .i in
     let x = c .index-records-i .result in
     let rank = rankIn order used rows in
-    let w = c .if-not-write-rank .ensures tt in
-    (w .row
-     ∙ ap (λ t. set t i (rank x)) (c .loop-i .inv .0)
-     ∙ fill-more rank rs (c .args .row .now) i x (omega arith) (omega arith) (c .index-records-i .is),
-     ap (λ b. b && allKnown order used rows (drop (i + 1) rs)) (w .answer)
-     ∙ sym (known-more order used rows rs i x (omega arith) (c .index-records-i .is))
-     ∙ c .loop-i .inv .1)
+    let w = c .if-not-write-rank .ensures tt in (
+      w .row
+          ∙ ap (λ t. set t i (rank x)) (c .loop-i .inv .0)
+          ∙ fill-more rank rs (c .args .row .now) i x (omega arith) (omega arith) (c .index-records-i .is),
+      ap (λ b. b && allKnown order used rows (drop (i + 1) rs)) (w .answer)
+          ∙ sym (known-more order used rows rs i x (omega arith) (c .index-records-i .is))
+          ∙ c .loop-i .inv .1,
+    )
 
 pub returns-then-not-write-rank : need.returns-then-not-write-rank
 returns-then-not-write-rank g c =
@@ -36,9 +37,9 @@ returns-then-not-write-rank g c =
     let x = c .index-records-i .result in
     let w = c .if-not-write-rank .ensures tt in
     let none : allKnown order used rows rs ≡ false =
-        sym (c .loop-i .inv .1)
-        ∙ known-more order used rows rs i x (omega arith) (c .index-records-i .is)
-        ∙ ap (λ b. b && allKnown order used rows (drop (i + 1) rs)) (sym (w .answer)) in
+    sym (c .loop-i .inv .1)
+    ∙ known-more order used rows rs i x (omega arith) (c .index-records-i .is)
+    ∙ ap (λ b. b && allKnown order used rows (drop (i + 1) rs)) (sym (w .answer)) in
     let d = filled-none order used rows rs (c .args .row .now) (omega arith) (omega arith) none in
     record {
       answer = d .0;
@@ -58,8 +59,8 @@ returns g c =
     record {
       answer = d .0;
       row =
-        c .loop-i .inv .0
-        ∙ ap (λ t. map (rankIn order used rows) t ++ drop i (c .args .row .now)) (take-all i rs (omega arith))
-        ∙ ap (λ n. map (rankIn order used rows) rs ++ drop n (c .args .row .now)) e
-        ∙ d .1;
+          c .loop-i .inv .0
+          ∙ ap (λ t. map (rankIn order used rows) t ++ drop i (c .args .row .now)) (take-all i rs (omega arith))
+          ∙ ap (λ n. map (rankIn order used rows) rs ++ drop n (c .args .row .now)) e
+          ∙ d .1;
     }

@@ -39,12 +39,12 @@ returns-in-Err g c =
     let t = c .in-Err .ensures tt in
     let bad : sound void ρ count side (length (c .loop-k .cells)) f x ≡ false = err-false _ WrongCell (c .in-Err .field-0) (t .answer) in
     let p = left-stop void ρ count side (length (c .args .cells .now)) (cell (g .T·Cell .nought) (c .args .cells .now)) (c .args .elements .now)
-            f (c .loop-k .k) x (c .loop-k-test .taken) (c .index-elements-k .is)
-            (ap (λ n. sound void ρ count side n f x) (sym (c .loop-k .kept .cells)) ∙ bad) (c .loop-k .inv) in
+    f (c .loop-k .k) x (c .loop-k-test .taken) (c .index-elements-k .is)
+    (ap (λ n. sound void ρ count side n f x) (sym (c .loop-k .kept .cells)) ∙ bad) (c .loop-k .inv) in
     record { answer = p .1; matrix = λ a b. t .matrix a b ∙ cond-false _ _ _ bad ∙ ap (λ (h : ℕ → ℕ → g .T .Denot). h a b) (p .0) }
 
 pub returns : need.returns
 returns g c =
     let p = left-all (g .T·Cell .isNought) (c .args .ranks .now) (c .args .count) (c .args .side) (length (c .args .cells .now))
-            (cell (g .T·Cell .nought) (c .args .cells .now)) (c .args .elements .now) (cell (g .T·Cell .nought) (c .loop-k .cells)) (c .loop-k .k) (c .loop-k-test .left) (c .loop-k .inv) in
+    (cell (g .T·Cell .nought) (c .args .cells .now)) (c .args .elements .now) (cell (g .T·Cell .nought) (c .loop-k .cells)) (c .loop-k .k) (c .loop-k-test .left) (c .loop-k .inv) in
     record { answer = omega (arith, p .1); matrix = λ a b. ap (λ (h : ℕ → ℕ → g .T .Denot). h a b) (p .0) }

@@ -25,7 +25,7 @@ returns g c =
       answer = done .answer ∙ cond-true _ _ _ s ∙ sym (cond-true _ _ _ ok);
       list = done .list ∙ cond-true _ _ _ s ∙ sym (cond-true _ _ _ (free-new void ρ (c .args .count) (c .args .side) (length xs) f e nz fr));
       matrix = λ a b.
-        done .matrix a b
-        ∙ ap (λ t. cond (t && same i j a b) (e .value) (f a b)) s
-        ∙ sym (cond-true (sound void ρ (c .args .count) (c .args .side) (length xs) f e) _ _ ok ∙ stated-at void ρ (c .args .count) (c .args .side) (length xs) f e (sym nz) a b);
+          done .matrix a b
+          ∙ ap (λ t. cond (t && same i j a b) (e .value) (f a b)) s
+          ∙ sym (cond-true (sound void ρ (c .args .count) (c .args .side) (length xs) f e) _ _ ok ∙ stated-at void ρ (c .args .count) (c .args .side) (length xs) f e (sym nz) a b);
     }
