@@ -4,93 +4,147 @@ use mathlib.Core.List.{List, [], _∷_, _++_, append-assoc}
 use Prim.Native.Nat.{ℕ, suc, _+_, _-_, _<_, _≤_}
 use native.Mathlib.Omega.{arith}
 use native.Mathlib.Numerals.{add-one}
+use borrow.Rule.Slice.PartMut.{putMid}
 use lib.ListN.{length, take, drop, replicate, getD, set, take-append-drop}
 use Rattle.std.specs.Holes.{inserted, removed}
-use Rattle.std.proofs.shelf.Edits.{length-removed}
-use Rattle.std.proofs.shelf.Lists.{drop-more, drop-all, drop-set, drop-set-lt, drop-append-le, getD-take, length-take-le, length-replicate, replicate-more, set-at, set-split, take-append-le, take-at, take-more-set, take-set-le, take-take}
+use Rattle.std.proofs.shelf.Lists.{drop-all, drop-drop, drop-more, drop-set, drop-set-lt, drop-take, getD-drop, getD-take, length-append, length-drop, length-replicate, length-take-le, replicate-more, set-at, take-all, take-more, take-more-set, take-set-le, take-take}
 
--- ---- insertion: each record from the last on moves up, the places below i are as they were
+-- ---- every record but the last moves up: the places up to i are as they were
 
--- the rows above place i, of which the first u were used
-abbrev pub risen : {R : Type 0} → List R → ℕ → ℕ → List R
-risen start u i = drop i (take u start) ++ drop (u + 1) start
+pub rise-start : {R : Type 0} (start : List R) (i : ℕ) → i + 1 ≡ length start → drop (i + 1) start ≡ drop i (take i start)
+rise-start start i e =
+    let n : length (take i start) ≡ i = length-take-le i start (omega arith) in
+    drop-all (i + 1) start (omega arith) ∙ sym (drop-all i (take i start) (omega arith))
 
-pub rise-start : {R : Type 0} (start : List R) (u : ℕ) → u ≤ length start → drop (u + 1) start ≡ risen start u u
-rise-start start u le =
-    let n : length (take u start) ≡ u = length-take-le u start le in
-    sym (ap (λ t. t ++ drop (u + 1) start) (drop-all u (take u start) (omega arith)))
+module _ {R : Type 0} (part start : List R) (u i j : ℕ) (d : R) (next : i ≡ j + 1) (top : i ≤ u) (long : u + 1 ≡ length start) (same : length part ≡ length start)
+    (below : take (i + 1) part ≡ take (i + 1) start) where
+  -- the record below place i
+  abbrev x : R
+  x = getD part j d
 
-module _ {R : Type 0} (rows start : List R) (u i j : ℕ) (x : R) (next : i ≡ j + 1) (top : i ≤ u) (room : u < length rows) (long : length rows ≡ length start)
-    (below : take i rows ≡ take i start) where
-  pub rise-take : take j (set rows i x) ≡ take j start
+  pub rise-take : take (j + 1) (set part i x) ≡ take (j + 1) start
   rise-take =
-      let le : j ≤ i = omega arith in
-      take-set-le j rows i x le ∙ sym (take-take j i rows le) ∙ ap (take j) below ∙ take-take j i start le
+      let le : j + 1 ≤ i = omega arith in
+      let lm : j + 1 ≤ i + 1 = omega arith in
+      take-set-le (j + 1) part i x le ∙ sym (take-take (j + 1) (i + 1) part lm) ∙ ap (take (j + 1)) below ∙ take-take (j + 1) (i + 1) start lm
 
-  pub rise-drop : x ≡ getD rows j x → drop (i + 1) rows ≡ risen start u i → drop (j + 1) (set rows i x) ≡ risen start u j
-  rise-drop read above =
-      let lt : j < i = omega arith in
+  pub rise-drop : drop (i + 1) part ≡ drop i (take u start) → drop (j + 1) (set part i x) ≡ drop j (take u start)
+  rise-drop above =
       let n : length (take u start) ≡ u = length-take-le u start (omega arith) in
-      let same : x ≡ getD (take u start) j x =
-      read ∙ sym (getD-take i rows j x lt) ∙ ap (λ t. getD t j x) below ∙ getD-take i start j x lt ∙ sym (getD-take u start j x (omega arith)) in
-      ap (λ t. drop t (set rows i x)) (sym next)
-      ∙ drop-set rows i x (omega arith)
-      ∙ ap (λ t. x ∷ t) above
-      ∙ ap (λ t. x ∷ (drop t (take u start) ++ drop (u + 1) start)) next
-      ∙ ap (λ y. y ∷ (drop (j + 1) (take u start) ++ drop (u + 1) start)) same
-      ∙ ap (λ t. t ++ drop (u + 1) start) (sym (drop-more (take u start) j x (omega arith)))
+      let was : x ≡ getD (take u start) j d =
+      sym (getD-take (i + 1) part j d (omega arith))
+      ∙ ap (λ t. getD t j d) below
+      ∙ getD-take (i + 1) start j d (omega arith)
+      ∙ sym (getD-take u start j d (omega arith)) in
+      ap (λ t. drop t (set part i x)) (sym next)
+      ∙ drop-set part i x (omega arith)
+      ∙ ap (λ t. x ∷ t) (above ∙ ap (λ t. drop t (take u start)) next)
+      ∙ ap (λ y. y ∷ drop (j + 1) (take u start)) was
+      ∙ sym (drop-more (take u start) j d (omega arith))
 
-pub rise-end : {R : Type 0} (rows start : List R) (u k : ℕ) (r : R) → k ≤ u → k < length rows → take k rows ≡ take k start → drop (k + 1) rows ≡ risen start u k
-    → set rows k r ≡ inserted (take u start) k r ++ drop (u + 1) start
-rise-end rows start u k r le lt below above =
-    set-split rows k r lt
-    ∙ ap (λ t. take k rows ++ r ∷ drop t rows) (sym (add-one k))
-    ∙ ap (λ t. take k rows ++ r ∷ t) above
-    ∙ ap (λ t. t ++ r ∷ risen start u k) (below ∙ sym (take-take k u start le))
-    ∙ sym (append-assoc (take k (take u start)) (r ∷ drop k (take u start)) (drop (u + 1) start))
+pub rise-end : {R : Type 0} (part start : List R) (i u : ℕ) → i ≡ 0 → u ≡ length start - 1 → take (i + 1) part ≡ take (i + 1) start → drop (i + 1) part ≡ drop i (take u start)
+    → part ≡ take 1 start ++ take (length start - 1) start
+rise-end part start i u e last below above =
+    sym (take-append-drop (i + 1) part)
+    ∙ ap (λ t. t ++ drop (i + 1) part) below
+    ∙ ap (λ t. take (i + 1) start ++ t) above
+    ∙ ap (λ n. take (n + 1) start ++ drop n (take u start)) e
+    ∙ ap (λ n. take 1 start ++ take n start) last
 
--- ---- removal: each record above moves down
+-- ---- every record but the first moves down: the places from i on are as they were
 
-pub fall-step : {R : Type 0} (rows : List R) (i : ℕ) (x : R) → i + 1 < length rows → x ≡ getD rows (i + 1) x → removed (set rows i x) (i + 1) ≡ removed rows i
-fall-step rows i x lt read =
-    let lt′ : i < length rows = omega arith in
-    let low : i < suc (i + 1) = omega arith in
-    let d : drop (i + 1) rows ≡ x ∷ drop (i + 1 + 1) rows = drop-more rows (i + 1) x lt ∙ ap (λ y. y ∷ drop (i + 1 + 1) rows) (sym read) in
-    ap (λ t. t ++ drop (suc (i + 1)) (set rows i x)) (take-more-set rows i x lt′)
-    ∙ ap (λ t. (take i rows ++ x ∷ []) ++ t) (drop-set-lt (suc (i + 1)) rows i x low)
-    ∙ append-assoc (take i rows) (x ∷ []) (drop (suc (i + 1)) rows)
-    ∙ ap (λ t. take i rows ++ x ∷ drop t rows) (sym (add-one (i + 1)))
-    ∙ ap (λ t. take i rows ++ t) (sym d)
-    ∙ ap (λ t. take i rows ++ drop t rows) (add-one i)
+module _ {R : Type 0} (part start : List R) (i : ℕ) (d : R) (lt : i + 1 < length start) (same : length part ≡ length start) (above : drop i part ≡ drop i start) where
+  fall-read : getD part (i + 1) d ≡ getD (drop 1 start) i d
+  fall-read =
+      sym (getD-drop i part 1 d)
+      ∙ ap (λ t. getD t 1 d) above
+      ∙ getD-drop i start 1 d
+      ∙ ap (λ n. getD start n d) (omega arith)
+      ∙ sym (getD-drop 1 start i d)
 
-pub removed-append : {R : Type 0} (xs ys : List R) (j : ℕ) → j < length xs → removed (xs ++ ys) j ≡ removed xs j ++ ys
-removed-append xs ys j lt =
-    let le : j ≤ length xs = omega arith in
-    let ls : suc j ≤ length xs = omega arith in
-    ap (λ t. t ++ drop (suc j) (xs ++ ys)) (take-append-le j xs ys le)
-    ∙ ap (λ t. take j xs ++ t) (drop-append-le (suc j) xs ys ls)
-    ∙ sym (append-assoc (take j xs) (drop (suc j) xs) ys)
+  pub fall-take : take i part ≡ take i (drop 1 start) → take (i + 1) (set part i (getD part (i + 1) d)) ≡ take (i + 1) (drop 1 start)
+  fall-take below =
+      let n : length (drop 1 start) ≡ length start - 1 = length-drop 1 start in
+      take-more-set part i (getD part (i + 1) d) (omega arith)
+      ∙ ap (λ t. t ++ getD part (i + 1) d ∷ []) below
+      ∙ ap (λ y. take i (drop 1 start) ++ y ∷ []) fall-read
+      ∙ sym (take-more (drop 1 start) i d (omega arith))
 
--- the used rows without the one at k, of all the rows
-pub removed-used : {R : Type 0} (start : List R) (u i k : ℕ) → i + 1 ≡ u → k < u → u ≤ length start → take i (removed start k) ≡ removed (take u start) k
-removed-used start u i k n lt le =
-    let long : length (take u start) ≡ u = length-take-le u start le in
-    let less : length (removed (take u start) k) + 1 ≡ length (take u start) = length-removed (take u start) k (omega arith) in
-    ap (λ t. take i (removed t k)) (sym (take-append-drop u start))
-    ∙ ap (take i) (removed-append (take u start) (drop u start) k (omega arith))
-    ∙ take-at (removed (take u start) k) (drop u start) i (omega arith)
+  pub fall-drop : drop (i + 1) (set part i (getD part (i + 1) d)) ≡ drop (i + 1) start
+  fall-drop =
+      drop-set-lt (i + 1) part i (getD part (i + 1) d) (omega arith)
+      ∙ sym (drop-drop 1 i part)
+      ∙ ap (drop 1) above
+      ∙ drop-drop 1 i start
 
-pub fall-end : {R : Type 0} (rows start : List R) (k : ℕ) (b : R) (i u : ℕ) → i + 1 ≡ u → k < u → u ≤ length rows → length rows ≡ length start → removed rows i ≡ removed start k
-    → drop u rows ≡ drop u start → set rows i b ≡ removed (take u start) k ++ (b ∷ drop u start)
-fall-end rows start k b i u n lk le long e d =
-    let lt : i < length rows = omega arith in
-    let li : i ≤ length rows = omega arith in
-    set-split rows i b lt
-    ∙ ap (λ t. take i rows ++ b ∷ drop t rows) (sym (add-one i) ∙ n)
-    ∙ ap (λ t. take i rows ++ b ∷ t) d
-    ∙ ap (λ t. t ++ b ∷ drop u start) (sym (take-at (take i rows) (drop (suc i) rows) i (length-take-le i rows li)))
-    ∙ ap (λ t. take i t ++ b ∷ drop u start) e
-    ∙ ap (λ t. t ++ b ∷ drop u start) (removed-used start u i k n lk (omega arith))
+pub fall-end : {R : Type 0} (part start : List R) (i : ℕ) → i ≡ length start - 1 → take i part ≡ take i (drop 1 start) → drop i part ≡ drop i start
+    → part ≡ drop 1 start ++ drop (length start - 1) start
+fall-end part start i e below above =
+    let n : length (drop 1 start) ≡ length start - 1 = length-drop 1 start in
+    sym (take-append-drop i part)
+    ∙ ap (λ t. t ++ drop i part) (below ∙ take-all i (drop 1 start) (omega arith))
+    ∙ ap (λ t. drop 1 start ++ t) above
+    ∙ ap (λ m. drop 1 start ++ drop m start) e
+
+-- ---- a part of the rows, shifted
+
+-- the rows from k to u, past the shift of the part that ends with place u
+pub insert-part : {R : Type 0} (rows part : List R) (k u : ℕ) (r : R) → k ≤ u → u < length rows
+    → part ≡ take 1 (take (u + 1 - k) (drop k rows)) ++ take (length (take (u + 1 - k) (drop k rows)) - 1) (take (u + 1 - k) (drop k rows))
+    → set (putMid k (u + 1 - k) rows part) k r ≡ inserted (take u rows) k r ++ drop (u + 1) rows
+insert-part rows part k u r le lt e =
+    let x = getD rows k r in
+    let m = u - k in
+    let mid = take m (drop k rows) in
+    let rest = drop (u + 1 - k) (drop k rows) in
+    let s : u + 1 - k ≡ suc m = omega arith in
+    let front : drop k rows ≡ x ∷ drop (k + 1) rows = drop-more rows k r (omega arith) in
+    let first : take 1 (take (u + 1 - k) (drop k rows)) ≡ x ∷ [] =
+    ap (λ n. take 1 (take n (drop k rows))) s ∙ ap (λ t. take 1 (take (suc m) t)) front in
+    let ld : length (drop k rows) ≡ length rows - k = length-drop k rows in
+    let n : length (take (u + 1 - k) (drop k rows)) - 1 ≡ m =
+    let l : length (take (u + 1 - k) (drop k rows)) ≡ u + 1 - k = length-take-le (u + 1 - k) (drop k rows) (omega arith) in omega arith in
+    let others : take (length (take (u + 1 - k) (drop k rows)) - 1) (take (u + 1 - k) (drop k rows)) ≡ mid =
+    ap (λ q. take q (take (u + 1 - k) (drop k rows))) n ∙ take-take m (u + 1 - k) (drop k rows) (omega arith) in
+    let lk : length (take k rows) ≡ k = length-take-le k rows (omega arith) in
+    let ku : k + m ≡ u = omega arith in
+    let inner : drop k (take u rows) ≡ mid = ap (λ q. drop k (take q rows)) (sym ku) ∙ drop-take k m rows in
+    let past : rest ≡ drop (u + 1) rows = drop-drop (u + 1 - k) k rows ∙ ap (λ q. drop q rows) (omega arith) in
+    ap (λ p. set (take k rows ++ (p ++ rest)) k r) (e ∙ ap (λ t. t ++ take (length (take (u + 1 - k) (drop k rows)) - 1) (take (u + 1 - k) (drop k rows))) first ∙ ap (λ t. x ∷ t) others)
+    ∙ set-at (take k rows) x (mid ++ rest) r k lk
+    ∙ ap (λ t. take k rows ++ r ∷ (mid ++ t)) past
+    ∙ ap (λ t. take k rows ++ r ∷ (t ++ drop (u + 1) rows)) (sym inner)
+    ∙ ap (λ t. t ++ r ∷ (drop k (take u rows) ++ drop (u + 1) rows)) (sym (take-take k u rows le))
+    ∙ sym (append-assoc (take k (take u rows)) (r ∷ drop k (take u rows)) (drop (u + 1) rows))
+
+pub remove-part : {R : Type 0} (rows part : List R) (k u : ℕ) (b : R) → k < u → u ≤ length rows
+    → part ≡ drop 1 (take (u - k) (drop k rows)) ++ drop (length (take (u - k) (drop k rows)) - 1) (take (u - k) (drop k rows))
+    → set (putMid k (u - k) rows part) (u - 1) b ≡ removed (take u rows) k ++ (b ∷ drop u rows)
+remove-part rows part k u b lt le e =
+    let m = u - k - 1 in
+    let p = take (u - k) (drop k rows) in
+    let ld : length (drop k rows) ≡ length rows - k = length-drop k rows in
+    let lp : length p ≡ u - k = length-take-le (u - k) (drop k rows) (omega arith) in
+    let y = getD p m b in
+    let last : drop (length p - 1) p ≡ y ∷ [] =
+    ap (λ q. drop q p) (omega arith) ∙ drop-more p m b (omega arith) ∙ ap (λ t. y ∷ t) (drop-all (m + 1) p (omega arith)) in
+    let body = drop 1 p in
+    let rest = drop (u - k) (drop k rows) in
+    let lk : length (take k rows) ≡ k = length-take-le k rows (omega arith) in
+    let lb : length body ≡ m = length-drop 1 p ∙ omega arith in
+    let lw : length (take k rows ++ body) ≡ u - 1 = length-append (take k rows) body ∙ omega arith in
+    let past : rest ≡ drop u rows = drop-drop (u - k) k rows ∙ ap (λ q. drop q rows) (omega arith) in
+    let ku : k + (u - k) ≡ u = omega arith in
+    let whole : drop k (take u rows) ≡ p = ap (λ q. drop k (take q rows)) (sym ku) ∙ drop-take k (u - k) rows in
+    let inner : body ≡ drop (suc k) (take u rows) =
+    ap (drop 1) (sym whole) ∙ drop-drop 1 k (take u rows) ∙ ap (λ q. drop q (take u rows)) (add-one k) in
+    ap (λ t. set (take k rows ++ (t ++ rest)) (u - 1) b) (e ∙ ap (λ t. body ++ t) last)
+    ∙ ap (λ t. set (take k rows ++ t) (u - 1) b) (append-assoc body (y ∷ []) rest)
+    ∙ ap (λ t. set t (u - 1) b) (sym (append-assoc (take k rows) body (y ∷ rest)))
+    ∙ set-at (take k rows ++ body) y rest b (u - 1) lw
+    ∙ ap (λ t. (take k rows ++ body) ++ b ∷ t) past
+    ∙ ap (λ t. (take k rows ++ t) ++ b ∷ drop u rows) inner
+    ∙ ap (λ t. (t ++ drop (suc k) (take u rows)) ++ b ∷ drop u rows) (sym (take-take k u rows (omega arith)))
 
 -- ---- a loop that makes rows blank
 

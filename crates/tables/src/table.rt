@@ -2,7 +2,7 @@
 ghost use mathlib.Core.List.{_++_, _∷_};
 ghost use mathlib.Core.Path.{_≡_};
 ghost use Prim.Native.Nat.{ℕ, _+_, _-_, _<_, _≤_};
-ghost use lib.ListN.{length, take, drop, replicate};
+ghost use lib.ListN.{length, getD, set, take, drop, replicate};
 ghost use denote.Ref.{name};
 ghost use Rattle.std.specs.Holes.{inserted, removed};
 ghost use Rattle.std.specs.declared.cmp.Ordering.{Ordering};
@@ -56,16 +56,50 @@ fn seek<R: Record>(rows: &[R], used: usize, r: &R) -> Place
     Place::Gap(low)
 }
 
+// Copies the record below place i into it.
+fn raise<R: Record>(part: &mut [R], i: usize)
+    requires { ⌜ 0 < i ⌝ ∗ ⌜ i < length (now part) ⌝ }
+    ensures { λ _. ⌜ ((d : R) → now (part .exit) ≡ set (now (part .entry)) i (getD (now (part .entry)) (i - 1) d)) ⌝ }
+{
+    part[i] = part[i - 1];
+}
+
+// Moves every record but the last up by one place; the first stands in its place too.
+fn shift_up<R: Record>(part: &mut [R])
+    requires { ⌜ 0 < length (now part) ⌝ }
+    ensures { λ _. ⌜ now (part .exit) ≡ take 1 (now (part .entry)) ++ take (length (now (part .entry)) - 1) (now (part .entry)) ⌝ }
+{
+    let mut i = part.len() - 1;
+    while i > 0 {
+        raise(part, i);
+        i -= 1;
+    }
+}
+
+// Copies the record above place i into it.
+fn lower<R: Record>(part: &mut [R], i: usize)
+    requires { ⌜ i + 1 < length (now part) ⌝ }
+    ensures { λ _. ⌜ ((d : R) → now (part .exit) ≡ set (now (part .entry)) i (getD (now (part .entry)) (i + 1) d)) ⌝ }
+{
+    part[i] = part[i + 1];
+}
+
+// Moves every record but the first down by one place; the last stands in its place too.
+fn shift_down<R: Record>(part: &mut [R])
+    requires { ⌜ 0 < length (now part) ⌝ }
+    ensures { λ _. ⌜ now (part .exit) ≡ drop 1 (now (part .entry)) ++ drop (length (now (part .entry)) - 1) (now (part .entry)) ⌝ }
+{
+    for i in 0..part.len() - 1 {
+        lower(part, i);
+    }
+}
+
 // Puts r at place k of the first `used` rows; those from k on move up by one.
 fn insert<R: Record>(rows: &mut [R], k: usize, used: usize, r: R)
     requires { ⌜ k ≤ used ⌝ ∗ ⌜ used < length (now rows) ⌝ }
     ensures { λ _. ⌜ now (rows .exit) ≡ inserted (take used (now (rows .entry))) k r ++ drop (used + 1) (now (rows .entry)) ⌝ }
 {
-    let mut i = used;
-    while i > k {
-        rows[i] = rows[i - 1];
-        i -= 1;
-    }
+    shift_up(&mut rows[k..used + 1]);
     rows[k] = r;
 }
 
@@ -74,12 +108,8 @@ fn remove<R: Record>(rows: &mut [R], k: usize, used: usize)
     requires { ⌜ k < used ⌝ ∗ ⌜ used ≤ length (now rows) ⌝ }
     ensures { λ _. ⌜ now (rows .exit) ≡ removed (take used (now (rows .entry))) k ++ (R·Record .bare ∷ drop used (now (rows .entry))) ⌝ }
 {
-    let mut i = k;
-    while i + 1 < used {
-        rows[i] = rows[i + 1];
-        i += 1;
-    }
-    rows[i] = R::blank();
+    shift_down(&mut rows[k..used]);
+    rows[used - 1] = R::blank();
 }
 
 // Puts r among the used rows, in the place of the record of its key or as a new one: how many are then used.
@@ -168,7 +198,8 @@ impl<'a, R: Record> OrderedTable<'a, R> {
     pub fn used(&self) -> usize
         ensures { λ n. ⌜ n ≡ now (self .entry) .used ⌝ }
     {
-        self.used
+        let OrderedTable { used, .. } = self;
+        *used
     }
 
     // Where the record of r's key stands, or would go.

@@ -2,17 +2,17 @@
 use mathlib.Core.Path.{_≡_, refl, sym, ap, subst, _∙_}
 use mathlib.Core.Bool.{Bool, true, false, cond, _&&_, _||_}
 use mathlib.Core.Logic.{_⊎_, inl, inr, ⊎-elim}
-use mathlib.Core.List.{List, [], _∷_}
+use mathlib.Core.List.{List, [], _∷_, _++_, map}
 use Prim.Native.Nat.{ℕ, zero, suc, _+_, _-_, _≤_, _<_, max, min}
 use native.Mathlib.Nat.{max-comm, min-comm}
 use native.Mathlib.Omega.{arith}
-use lib.Dec.{eqb}
-use lib.ListN.{length, getD}
+use lib.Dec.{eqb, leb}
+use lib.ListN.{length, getD, drop}
 use Rattle.std.specs.Orderings.{Decides}
 use Rattle.std.specs.declared.cmp.Ordering.{Ordering}
 use Rattle.std.specs.declared.cmp.Ordering.the-variants.{Equal}
-use Rattle.std.proofs.shelf.Lists.{getD-default}
-use Rattle.std.proofs.shelf.Tests.{cases-eq, cases-bool, cond-true, cond-false, eq-eqb, eqb-true, and-parts, and-from, or-cases, both-ways}
+use Rattle.std.proofs.shelf.Lists.{getD-append-left, getD-default, getD-map, length-map}
+use Rattle.std.proofs.shelf.Tests.{cases-eq, cases-bool, cond-true, cond-false, eq-eqb, eqb-true, and-parts, and-from, or-cases, both-ways, leb-true}
 use Rattle.std.proofs.shelf.Ways.{same-from-decides, decides-like}
 use Rattle.tables.specs.declared.table.Place.{Place}
 use Rattle.tables.specs.declared.table.Place.the-variants.{Found, Gap}
@@ -24,8 +24,8 @@ use Rattle.tables.proofs.Places.{search-law}
 use Rattle.triangle.specs.declared.row.Element.{Element}
 use Rattle.triangle.specs.declared.row.Side.{Side}
 use Rattle.triangle.specs.Triangle.{same, seen}
-use Rattle.triangle.specs.Statements.{rankIn, counted, inside, onSide, rankOf, free, sound, stated, run, taken}
-use Rattle.triangle.specs.Files.{Symmetric, States, Each-stands, Others-stay, Apart, Renumbered, By-index, Ranks-apart, Ranks-found}
+use Rattle.triangle.specs.Statements.{rankIn, allKnown, counted, inside, onSide, rankOf, free, sound, stated, run, taken}
+use Rattle.triangle.specs.Files.{Symmetric, States, Each-stands, Others-stay, Apart, Renumbered, By-index, Ranks-apart, Ranks-found, Fill-apart}
 use Rattle.triangle.proofs.States.{stated-zero, stated-at, free-void}
 
 abbrev Pair : ℕ → ℕ → ℕ → ℕ → Type 0
@@ -225,3 +225,32 @@ module _ (R : Type 0) (cmp : R → R → Ordering) (o : Order cmp) where
       let y = getD xs (rankIn cmp used rows r) r in
       let same : y ≡ getD xs (rankIn cmp used rows s) s = getD-default xs (rankIn cmp used rows r) r s lt ∙ ap (λ k. getD xs k s) e in
       sym (o .alike y r s p) ∙ ap (λ t. cmp t s) same ∙ q
+
+  -- each record of a list that the table has
+  known-at : (used : ℕ) (rows rs : List R) (i : ℕ) (d : R) → allKnown cmp used rows rs ≡ true → i < length rs → known cmp (getD rs i d) used rows ≡ true
+  known-at used rows [] i d k lt = absurd (omega arith)
+  known-at used rows (r ∷ rs) zero d k lt = and-parts (known cmp r used rows) (allKnown cmp used rows rs) k .0
+  known-at used rows (r ∷ rs) (suc i) d k lt = known-at used rows rs i d (and-parts (known cmp r used rows) (allKnown cmp used rows rs) k .1) (omega arith)
+
+  -- the rank of an index in a filled row
+  filled-at : (f : R → ℕ) (rs : List R) (row : List ℕ) (d : R) (p : ℕ) → counted (length rs) p ≡ true
+      → (p - 1 < length rs) × ((1 ≤ p) × (rankOf (map f rs ++ drop (length rs) row) p ≡ f (getD rs (p - 1) d)))
+  filled-at f rs row d p h =
+      let (a, b) = and-parts (leb 1 p) (leb p (length rs)) h in
+      let low : 1 ≤ p = leb-true 1 p a in
+      let high : p ≤ length rs = leb-true p (length rs) b in
+      let lt : p - 1 < length rs = omega arith in
+      let m : length (map f rs) ≡ length rs = length-map rs f in
+      (lt, (low, getD-append-left (map f rs) (drop (length rs) row) 0 (p - 1) (omega arith) ∙ getD-map f rs (p - 1) d 0 lt))
+
+  pub fill-apart : Fill-apart R cmp
+  fill-apart used rows h [] row k keys p q hp hq e =
+      let (a, b) = and-parts (leb 1 p) (leb p 0) hp in
+      absurd (omega (arith, leb-true 1 p a, leb-true p 0 b))
+  fill-apart used rows h (r ∷ rs) row k keys p q hp hq e =
+      let all = r ∷ rs in
+      let (lp, (op, ep)) = filled-at (rankIn cmp used rows) (r ∷ rs) row r p hp in
+      let (lq, (oq, eq)) = filled-at (rankIn cmp used rows) (r ∷ rs) row r q hq in
+      let same = ranks-apart used rows h (getD (r ∷ rs) (p - 1) r) (getD (r ∷ rs) (q - 1) r) (known-at used rows (r ∷ rs) (p - 1) r k lp) (known-at used rows (r ∷ rs) (q - 1) r k lq) (sym ep ∙ e ∙ eq) in
+      let one : p - 1 ≡ q - 1 = keys (p - 1) (q - 1) r lp lq same in
+      omega arith

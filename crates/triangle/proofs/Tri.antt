@@ -1,3 +1,4 @@
+-- Places of rows and cells: no two cells share one. Assumes nothing.
 use mathlib.Core.Path.{_≡_, refl, sym, ap, _∙_}
 use mathlib.Core.Logic.{_≢_, _⊎_, inl, inr, ⊎-elim}
 use mathlib.Core.List.{List}
@@ -65,11 +66,6 @@ module _ {X : Type 0} (z : X) (xs : List X) (p i j : ℕ) (v : X) (e : p ≡ tri
   low-put-other hj a b h ne =
       getD-set-other xs p (tri a + b) v z (λ q. ne (low-row a b i j h hj (q ∙ e)) (low-col a b i j h hj (q ∙ e)))
 
--- a copy from the place q of row s and column t to the place p of row i and column j
-pub low-move-same : {X : Type 0} (z : X) (xs : List X) (p i j q s t : ℕ) → p ≡ tri i + j → q ≡ tri s + t → p < length xs
-    → low z (set xs p (getD xs q z)) i j ≡ low z xs s t
-low-move-same z xs p i j q s t e f h = low-put-same z xs p i j (getD xs q z) e h ∙ ap (λ k. getD xs k z) f
-
 -- two cells have one place only if they are the same cell
 pub spot-max : (i j a b : ℕ) → spot a b ≡ spot i j → max a b ≡ max i j
 spot-max i j a b e = low-row (max a b) (min a b) (max i j) (min i j) (omega arith) (omega arith) e
@@ -106,9 +102,6 @@ cell-set z xs i j v h a b =
 pub holds-parts : (len n : ℕ) → true ≡ holds len n → (n ≤ 2000) × (tri n ≤ len)
 holds-parts len n e =
     let p = and-parts (leb n 2000) (leb (tri n) len) (sym e) in (leb-true n 2000 (p .0), leb-true (tri n) len (p .1))
-
-pub holds-from : (len n : ℕ) → n ≤ 2000 → tri n ≤ len → true ≡ holds len n
-holds-from len n h k = sym (and-from (leb n 2000) (leb (tri n) len) (le-leb n 2000 h) (le-leb (tri n) len k))
 
 -- what it takes to open a rank, and to close one
 pub openable-parts : (len n r : ℕ) → true ≡ openable len n r → (n < 2000) × (tri (suc n) ≤ len) × (r ≤ n)

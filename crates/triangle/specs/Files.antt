@@ -1,9 +1,9 @@
 -- What the elements of a block state, in whatever order they stand.
 use mathlib.Core.Bool.{Bool, true, false}
-use mathlib.Core.List.{List}
+use mathlib.Core.List.{List, _++_, map}
 use mathlib.Core.Path.{_≡_}
 use Prim.Native.Nat.{ℕ, _<_, min}
-use lib.ListN.{length, getD}
+use lib.ListN.{length, getD, drop}
 use Rattle.std.specs.declared.cmp.Ordering.{Ordering}
 use Rattle.std.specs.declared.cmp.Ordering.the-variants.{Equal}
 use Rattle.tables.specs.Keys.{Rising}
@@ -11,7 +11,7 @@ use Rattle.tables.specs.Rows.{known, usedRows}
 use Rattle.triangle.specs.declared.row.Element.{Element}
 use Rattle.triangle.specs.declared.row.Side.{Side}
 use Rattle.triangle.specs.Triangle.{same}
-use Rattle.triangle.specs.Statements.{rankIn, counted, rankOf, run, taken}
+use Rattle.triangle.specs.Statements.{rankIn, allKnown, counted, rankOf, run, taken}
 
 abbrev pub Symmetric : {X : Type 0} → (ℕ → ℕ → X) → Type 0
 Symmetric f = (i j : ℕ) → f i j ≡ f j i
@@ -62,3 +62,9 @@ Ranks-apart R cmp = (used : ℕ) (rows : List R) → Rising cmp (usedRows used r
 abbrev pub Ranks-found : (R : Type 0) → (R → R → Ordering) → Type 0
 Ranks-found R cmp = (used : ℕ) (rows : List R) → Rising cmp (usedRows used rows) → (r : R) → known cmp r used rows ≡ true
     → (rankIn cmp used rows r < length (usedRows used rows)) × (cmp (getD (usedRows used rows) (rankIn cmp used rows r) r) r ≡ Equal)
+
+-- a working row that is filled from records of different keys, all in a table whose keys rise, has distinct ranks for distinct indices
+abbrev pub Fill-apart : (R : Type 0) → (R → R → Ordering) → Type 0
+Fill-apart R cmp = (used : ℕ) (rows : List R) → Rising cmp (usedRows used rows) → (rs : List R) (row : List ℕ) → allKnown cmp used rows rs ≡ true
+    → ((i j : ℕ) (d : R) → i < length rs → j < length rs → cmp (getD rs i d) (getD rs j d) ≡ Equal → i ≡ j)
+    → Apart (length rs) (map (rankIn cmp used rows) rs ++ drop (length rs) row)

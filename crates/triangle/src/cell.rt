@@ -33,7 +33,8 @@ pub trait Cell: Copy {
 // How many places i rows take.
 pub(crate) fn rows(i: usize) -> usize
     requires { ⌜ i ≤ 2000 ⌝ }
-    ensures { λ r. ⌜ r ≡ tri i ⌝ }
+    ensures count { λ r. ⌜ r ≡ tri i ⌝ }
+    ensures bound { λ r. ⌜ r ≤ 2001000 ⌝ }
 {
     i * (i + 1) / 2
 }

@@ -1,5 +1,5 @@
 // The laws of the triangle and of the working row, for every kind of cell and of record. Each function does nothing: its contract is the law.
-ghost use Rattle.triangle.specs.Files.{Each-stands, Others-stay, By-index, Renumbered, Ranks-apart, Ranks-found};
+ghost use Rattle.triangle.specs.Files.{Each-stands, Others-stay, By-index, Renumbered, Ranks-apart, Ranks-found, Fill-apart};
 ghost use Rattle.triangle.specs.Laws.{Places, Moved, Opened, Closed, Undone, Pinned};
 use crate::cell::Cell;
 use tables::table::Record;
@@ -61,6 +61,7 @@ pub fn stating_law<T: Cell>() -> u8
 pub fn ranks_law<R: Record>() -> u8
     ensures found { λ _. ⌜ Ranks-found R (R·Record .order) ⌝ }
     ensures apart { λ _. ⌜ Ranks-apart R (R·Record .order) ⌝ }
+    ensures filled { λ _. ⌜ Fill-apart R (R·Record .order) ⌝ }
 {
     0
 }

@@ -25,7 +25,7 @@ loop-low-again-in-Less g c = (
   omega arith,
   omega arith,
   sym (seek-step (g .R·Record .order) (c .args .r .now) (c .args .rows .now) (c .args .used) (c .loop-low .low) (c .loop-low .high) (c .index-rows-mid .result) Less
-      (c .loop-low-test .taken) (omega arith) (c .pre) (c .index-rows-mid .is) (c .in-Less .ensures tt))
+      (omega arith) (omega arith) (c .pre) (c .index-rows-mid .is) (c .in-Less .ensures tt))
       ∙ c .loop-low .inv .2,
 )
 
@@ -34,7 +34,7 @@ returns-in-Equal g c = record {
   within = omega arith;
   spot =
       sym (seek-step (g .R·Record .order) (c .args .r .now) (c .args .rows .now) (c .args .used) (c .loop-low .low) (c .loop-low .high) (c .index-rows-mid .result) Equal
-      (c .loop-low-test .taken) (omega arith) (c .pre) (c .index-rows-mid .is) (c .in-Equal .ensures tt))
+      (omega arith) (omega arith) (c .pre) (c .index-rows-mid .is) (c .in-Equal .ensures tt))
       ∙ c .loop-low .inv .2;
 }
 
@@ -43,7 +43,7 @@ loop-low-again g c = (
   omega arith,
   omega arith,
   sym (seek-step (g .R·Record .order) (c .args .r .now) (c .args .rows .now) (c .args .used) (c .loop-low .low) (c .loop-low .high) (c .index-rows-mid .result) Greater
-      (c .loop-low-test .taken) (omega arith) (c .pre) (c .index-rows-mid .is) (c .in-Greater .ensures tt))
+      (omega arith) (omega arith) (c .pre) (c .index-rows-mid .is) (c .in-Greater .ensures tt))
       ∙ c .loop-low .inv .2,
 )
 

@@ -9,5 +9,5 @@ pub returns : need.returns
 returns g c =
     let z = g .T·Cell .nought in
     sink-runs (λ k. getD (c .args .cells .now) k z) (λ k. getD (c .copy-run .last .cells) k z) (λ k. getD (c .copy-run-2 .last .cells) k z)
-    (c .args .i) (c .args .r) (c .rows-to .result + c .args .i + 1) (c .rows-to .result) (c .rows-to .ensures) refl (omega arith)
+    (c .args .i) (c .args .r) (c .rows-to .result + c .args .i + 1) (c .rows-to .result) (c .rows-to .ensures .count) refl (omega arith)
     (c .copy-run .ensures) (c .copy-run-2 .ensures)

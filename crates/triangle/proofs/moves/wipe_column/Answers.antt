@@ -5,16 +5,13 @@ use borrow.Author.Needs.{needs}
 use lib.ListN.{length}
 use Rattle.std.proofs.shelf.Ways.{tells}
 use Rattle.triangle.specs.Triangle.{tri, low}
-use Rattle.triangle.proofs.Tri.{tri-bound, low-below, low-put-same, low-put-other}
+use Rattle.triangle.proofs.Tri.{low-below, low-put-same, low-put-other}
 use Rattle.triangle.proofs.Lifts.{wipe-column-step}
 use Rattle.triangle.proofs.moves.wipe_column.Needs as need
 use Rattle.triangle.proofs.moves.wipe_column.Given as given
 
 within : (g : given.Over) (c : need.After-rows g) → c .rows .result + c .args .r < length (c .loop-k .cells)
 within g c = omega (arith, low-below (c .loop-k .k) (c .args .r) (suc (c .args .n)) (omega arith) (omega arith))
-
-pub add-rows : need.add-rows
-add-rows g c = omega (arith, tri-bound (c .loop-k .k) (omega arith))
 
 pub offset-cells-rows : need.offset-cells-rows
 offset-cells-rows g c = let h = within g c in search needs

@@ -41,7 +41,7 @@ returns-in-Err g c =
     let p = left-stop void ρ count side (length (c .args .cells .now)) (cell (g .T·Cell .nought) (c .args .cells .now)) (c .args .elements .now)
     f (c .loop-k .k) x (c .loop-k-test .taken) (c .index-elements-k .is)
     (ap (λ n. sound void ρ count side n f x) (sym (c .loop-k .kept .cells)) ∙ bad) (c .loop-k .inv) in
-    record { answer = p .1; matrix = λ a b. t .matrix a b ∙ cond-false _ _ _ bad ∙ ap (λ (h : ℕ → ℕ → g .T .Denot). h a b) (p .0) }
+    record { answer = omega (arith, p .1); matrix = λ a b. t .matrix a b ∙ cond-false _ _ _ bad ∙ ap (λ (h : ℕ → ℕ → g .T .Denot). h a b) (p .0) }
 
 pub returns : need.returns
 returns g c =
