@@ -95,4 +95,4 @@ originText o = o .agency ++ (32 ∷ (momentText (o .created) ++ (32 ∷ (o .prov
 abbrev pub headerText : HeaderLine → List ℕ
 headerText x =
     originText (x .header .origin)
-      ++ (32 ∷ (techniqueLetter (x .header .technique) ∷ (32 ∷ (countText (x .count) ++ (32 ∷ (constraintDigit (x .header .constraint) ∷ []))))))
+    ++ (32 ∷ (techniqueLetter (x .header .technique) ∷ (32 ∷ (countText (x .count) ++ (32 ∷ (constraintDigit (x .header .constraint) ∷ []))))))

@@ -12,4 +12,4 @@ spaced {e = e} p q r s t = λ i. p i ++ (32 ∷ (q i ++ (32 ∷ (r i ++ (32 ∷ 
 pub returns : need.returns
 returns c =
     spaced (c .copy-from-slice-5 .ensures .after) (c .copy-from-slice-4 .ensures .after ∙ c .write-moment-3 .ensures) (c .copy-from-slice-3 .ensures .after)
-      (c .copy-from-slice-2 .ensures .after ∙ c .write-moment-2 .ensures) (c .copy-from-slice .ensures .after ∙ c .write-moment .ensures)
+    (c .copy-from-slice-2 .ensures .after ∙ c .write-moment-2 .ensures) (c .copy-from-slice .ensures .after ∙ c .write-moment .ensures)

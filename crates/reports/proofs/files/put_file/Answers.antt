@@ -17,12 +17,12 @@ returns-in-Continue-put-blocks g c =
     let cs = g .S·Source .content (c .args .source .now) in
     let f = c .args .frame .now in
     added-after (c .put-last .result) (vec-items (c .args .out .now)) _ _ _ (headerLine (c .in-Ok .line)) _ (lastLine (f .lines)) _
-      (c .in-Continue-put-header .ensures tt) (c .in-Continue-put-blocks .ensures tt) (c .put-last .ensures)
-      (ap (λ (bs : List Block). headerLine (c .in-Ok .line) ++ (blockLines cs bs ++ lastLine (f .lines))) (c .front-blocks .ensures)
-        ∙ ap (afterHeader cs f) (c .in-Ok .ensures tt ∙ ap (headerIn cs) (c .front-blocks .ensures)))
+    (c .in-Continue-put-header .ensures tt) (c .in-Continue-put-blocks .ensures tt) (c .put-last .ensures)
+    (ap (λ (bs : List Block). headerLine (c .in-Ok .line) ++ (blockLines cs bs ++ lastLine (f .lines))) (c .front-blocks .ensures)
+    ∙ ap (afterHeader cs f) (c .in-Ok .ensures tt ∙ ap (headerIn cs) (c .front-blocks .ensures)))
 
 pub returns-in-Err : need.returns-in-Err
 returns-in-Err g c =
     let cs = g .S·Source .content (c .args .source .now) in
     added (c .extend-from-slice .result) (vec-items (c .args .out .now)) _ _ _ (c .extend-from-slice .ensures .items)
-      (c .refusal-line .ensures ∙ ap (afterHeader cs (c .args .frame .now)) (c .in-Err .ensures tt ∙ ap (headerIn cs) (c .front-blocks .ensures)))
+    (c .refusal-line .ensures ∙ ap (afterHeader cs (c .args .frame .now)) (c .in-Err .ensures tt ∙ ap (headerIn cs) (c .front-blocks .ensures)))
