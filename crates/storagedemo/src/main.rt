@@ -98,74 +98,67 @@ fn step(rt: &LibcRuntime, sheet: &mut Sheet, said: &str, step: Step) -> io::Resu
     show(rt, sheet, said, done)
 }
 
-fn main(rt: LibcRuntime) -> io::Result<()> {
-    let mut sheet = blank_sheet();
+// Readings come in, in any order, until no place is left; two cells are set between.
+fn fill(rt: &LibcRuntime, sheet: &mut Sheet) -> io::Result<()> {
+    let b2 = code(b'B', b'2');
+    let c3 = code(b'C', b'3');
     step(
-        &rt,
-        &mut sheet,
+        rt,
+        sheet,
         "put B2",
         Step::PutReading(reading(b'B', b'2', 20)),
     )?;
     step(
-        &rt,
-        &mut sheet,
+        rt,
+        sheet,
         "put C3",
         Step::PutReading(reading(b'C', b'3', 30)),
     )?;
     step(
-        &rt,
-        &mut sheet,
+        rt,
+        sheet,
         "set B2 C3",
-        Step::SetCell(code(b'B', b'2'), code(b'C', b'3'), Amount { value: 5 }),
+        Step::SetCell(b2, c3, Amount { value: 5 }),
     )?;
     step(
-        &rt,
-        &mut sheet,
+        rt,
+        sheet,
         "set C3 C3",
-        Step::SetCell(code(b'C', b'3'), code(b'C', b'3'), Amount { value: 9 }),
+        Step::SetCell(c3, c3, Amount { value: 9 }),
     )?;
     step(
-        &rt,
-        &mut sheet,
+        rt,
+        sheet,
         "put A1, the first rank",
         Step::PutReading(reading(b'A', b'1', 10)),
     )?;
     step(
-        &rt,
-        &mut sheet,
+        rt,
+        sheet,
         "put B9, a rank between",
         Step::PutReading(reading(b'B', b'9', 29)),
     )?;
     step(
-        &rt,
-        &mut sheet,
+        rt,
+        sheet,
         "put B2 again",
         Step::PutReading(reading(b'B', b'2', 21)),
     )?;
     step(
-        &rt,
-        &mut sheet,
+        rt,
+        sheet,
         "put D4, no place",
         Step::PutReading(reading(b'D', b'4', 40)),
-    )?;
-    step(
-        &rt,
-        &mut sheet,
-        "drop B9",
-        Step::DropReading(code(b'B', b'9')),
-    )?;
-    step(
-        &rt,
-        &mut sheet,
-        "drop B9 again",
-        Step::DropReading(code(b'B', b'9')),
-    )?;
-    step(
-        &rt,
-        &mut sheet,
-        "set D4 A1, absent",
-        Step::SetCell(code(b'D', b'4'), code(b'A', b'1'), Amount { value: 1 }),
-    )?;
+    )
+}
+
+// A reading goes, and then the elements of a file that numbers the readings in its own order are stated.
+fn thin(rt: &LibcRuntime, sheet: &mut Sheet) -> io::Result<()> {
+    let b9 = code(b'B', b'9');
+    let absent = Step::SetCell(code(b'D', b'4'), code(b'A', b'1'), Amount { value: 1 });
+    step(rt, sheet, "drop B9", Step::DropReading(b9))?;
+    step(rt, sheet, "drop B9 again", Step::DropReading(b9))?;
+    step(rt, sheet, "set D4 A1, absent", absent)?;
     let order = [
         reading(b'C', b'3', 0),
         reading(b'A', b'1', 0),
@@ -179,50 +172,36 @@ fn main(rt: LibcRuntime) -> io::Result<()> {
         element(3, 2, 6),
         element(3, 3, 3),
     ];
-    step(
-        &rt,
-        &mut sheet,
-        "states of an upper triangle by C3 A1 B2, up to a fault",
-        Step::State(Side::Upper, order, upper),
-    )?;
-    step(
-        &rt,
-        &mut sheet,
-        "visit B2",
-        Step::PutVisit(Visit {
-            code: code(b'B', b'2'),
-            hour: 9,
-            minute: 30,
-        }),
-    )?;
-    step(
-        &rt,
-        &mut sheet,
-        "visit B2 later",
-        Step::PutVisit(Visit {
-            code: code(b'B', b'2'),
-            hour: 11,
-            minute: 5,
-        }),
-    )?;
-    step(
-        &rt,
-        &mut sheet,
-        "visit A1",
-        Step::PutVisit(Visit {
-            code: code(b'A', b'1'),
-            hour: 23,
-            minute: 0,
-        }),
-    )?;
-    step(
-        &rt,
-        &mut sheet,
-        "drop visit B2",
-        Step::DropVisit(Visit {
-            code: code(b'B', b'2'),
-            hour: 9,
-            minute: 30,
-        }),
-    )
+    let said = "states of an upper triangle by C3 A1 B2, up to a fault";
+    step(rt, sheet, said, Step::State(Side::Upper, order, upper))
+}
+
+// The table of the other kind of record.
+fn visit(rt: &LibcRuntime, sheet: &mut Sheet) -> io::Result<()> {
+    let early = Visit {
+        code: code(b'B', b'2'),
+        hour: 9,
+        minute: 30,
+    };
+    let late = Visit {
+        code: code(b'B', b'2'),
+        hour: 11,
+        minute: 5,
+    };
+    let other = Visit {
+        code: code(b'A', b'1'),
+        hour: 23,
+        minute: 0,
+    };
+    step(rt, sheet, "visit B2", Step::PutVisit(early))?;
+    step(rt, sheet, "visit B2 later", Step::PutVisit(late))?;
+    step(rt, sheet, "visit A1", Step::PutVisit(other))?;
+    step(rt, sheet, "drop visit B2", Step::DropVisit(early))
+}
+
+fn main(rt: LibcRuntime) -> io::Result<()> {
+    let mut sheet = blank_sheet();
+    fill(&rt, &mut sheet)?;
+    thin(&rt, &mut sheet)?;
+    visit(&rt, &mut sheet)
 }
