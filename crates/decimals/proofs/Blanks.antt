@@ -26,9 +26,9 @@ unblank-split [] = (0, refl)
 unblank-split (c ∷ cs) =
     ⊎-elim
     (λ y.
-        let r = unblank-split cs in
-        let e : unblank (c ∷ cs) ≡ unblank cs = cond-true _ _ _ y in
-        (suc (r .0), ap (λ x. x ∷ cs) (eqb-true c 32 y) ∙ (ap (λ x. 32 ∷ x) (r .1) ∙ ap (λ x. 32 ∷ (replicate (r .0) 32 ++ x)) (sym e))))
+    let r = unblank-split cs in
+    let e : unblank (c ∷ cs) ≡ unblank cs = cond-true _ _ _ y in
+    (suc (r .0), ap (λ x. x ∷ cs) (eqb-true c 32 y) ∙ (ap (λ x. 32 ∷ x) (r .1) ∙ ap (λ x. 32 ∷ (replicate (r .0) 32 ++ x)) (sym e))))
     (λ f. (0, sym (cond-false _ _ _ f)))
     (cases-bool (eqb c 32))
 

@@ -27,7 +27,7 @@ past-le : (t : List ℕ) → length (past t) ≤ length t
 past-le [] = omega arith
 past-le (c ∷ cs) = cond-both (isDigit c) (past cs) (c ∷ cs) (λ t. length t ≤ suc (length cs)) (λ _. omega (arith, past-le cs)) (λ _. omega arith)
 
-unblank-le : (t : List ℕ) → length (unblank t) ≤ length t
+pub unblank-le : (t : List ℕ) → length (unblank t) ≤ length t
 unblank-le [] = omega arith
 unblank-le (c ∷ cs) = cond-both (eqb c 32) (unblank cs) (c ∷ cs) (λ t. length t ≤ suc (length cs)) (λ _. omega (arith, unblank-le cs)) (λ _. omega arith)
 

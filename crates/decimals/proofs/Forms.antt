@@ -44,14 +44,14 @@ digitsFrom-lt v [] = omega arith
 digitsFrom-lt v (c ∷ cs) =
     ⊎-elim
     (λ t.
-        let a : digitsFrom v (c ∷ cs) ≡ digitsFrom (v * 10 + (c - 48)) cs = cond-true _ _ _ t in
-        let b : count (c ∷ cs) ≡ count cs + 1 = cond-true _ _ _ t ∙ omega arith in
-        let d : c - 48 ≤ 9 = grind (arith, tells) in
-        rw (a, b) (le-trans (digitsFrom-lt (v * 10 + (c - 48)) cs) (digit-on v (c - 48) (count cs) d)))
+    let a : digitsFrom v (c ∷ cs) ≡ digitsFrom (v * 10 + (c - 48)) cs = cond-true _ _ _ t in
+    let b : count (c ∷ cs) ≡ count cs + 1 = cond-true _ _ _ t ∙ omega arith in
+    let d : c - 48 ≤ 9 = grind (arith, tells) in
+    rw (a, b) (le-trans (digitsFrom-lt (v * 10 + (c - 48)) cs) (digit-on v (c - 48) (count cs) d)))
     (λ f.
-        let a : digitsFrom v (c ∷ cs) ≡ v = cond-false _ _ _ f in
-        let b : count (c ∷ cs) ≡ 0 = cond-false _ _ _ f in
-        rw (a, b) (omega arith))
+    let a : digitsFrom v (c ∷ cs) ≡ v = cond-false _ _ _ f in
+    let b : count (c ∷ cs) ≡ 0 = cond-false _ _ _ f in
+    rw (a, b) (omega arith))
     (cases-bool (isDigit c))
 
 pub exponent-yes : (neg : Bool) (t : List ℕ) → 1 ≤ count t → count t ≤ 2 → blank (past t) ≡ true → exponentDigits neg t ≡ Some (signed neg (digitsFrom 0 t))

@@ -1,3 +1,4 @@
+pub mod Faults
 pub mod Powers
 pub mod Fronts
 pub mod Forms

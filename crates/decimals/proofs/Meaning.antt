@@ -19,13 +19,11 @@ use Rattle.decimals.specs.declared.number.Number.{Number}
 use Rattle.decimals.specs.declared.number.Deviation.{Deviation}
 use Rattle.refusals.specs.declared.Fault.{Fault}
 use Rattle.refusals.specs.declared.Fault.the-variants.{WrongNumber, NumberOutOfRange}
+use Rattle.decimals.proofs.Faults.{no-fault}
 use Rattle.decimals.proofs.Reading.{readAt-long, readAt-said}
 use Rattle.decimals.proofs.Bounds.{Low, said-low}
 use Rattle.decimals.proofs.Values.{Read, read-value, same-from-values, values-from-same, value-read, unique}
 use Rattle.decimals.proofs.RoundTrip.{length-text, numberAs, number-back, deviation-back}
-
-no-fault : {A : Type 0} (e : Fault) (a : A) → _≡_ {A = Result A Fault} (Err e) (Ok a) → ⊥
-no-fault e a x = let z : _≡_ {A = ℕ} 0 1 = cc in omega arith
 
 -- a text that is read is short
 short : (k : ℕ) (bs : List ℕ) (n : Number) → readAt (10 ^ (k + 1)) bs ≡ Ok n → length bs ≤ 21
@@ -56,7 +54,7 @@ value-is-kept bs s n x e =
     (low bs s (short 14 bs n e) x, r .value, ⊎-elim (λ z. inr (z .0)) (λ y. inl (y .1)) (r .sign))
 
 pub same-at : (k : ℕ) (bs cs : List ℕ) (s t : Said) (m n : Number) → k ≤ 14 → said bs ≡ Some s → said cs ≡ Some t → readAt (10 ^ (k + 1)) bs ≡ Ok m → readAt (10 ^ (k + 1)) cs ≡ Ok n
-  → (m ≡ n → SameValue s t) × (SameValue s t → m ≡ n)
+    → (m ≡ n → SameValue s t) × (SameValue s t → m ≡ n)
 same-at k bs cs s t m n l x y a b =
     let r = read-of k bs s m l x a in
     let q = read-of k cs t n l y b in
@@ -85,9 +83,9 @@ deviation-as (Ok n) d x =
     ⊎-elim
     (λ t. absurd (no-fault NumberOutOfRange d (sym (cond-true _ _ _ t) ∙ x)))
     (λ f.
-        let y : Ok (record { mantissa = n .mantissa; exponent = n .exponent }) ≡ Ok d = sym (cond-false (n .negative) (Err NumberOutOfRange) (Ok (record { mantissa = n .mantissa; exponent = n .exponent })) f) ∙ x in
-        let z : record { mantissa = n .mantissa; exponent = n .exponent } ≡ d = cc in
-        ap (λ b. Ok (record { negative = b; mantissa = n .mantissa; exponent = n .exponent })) f ∙ ap (λ (d : Deviation). Ok (numberAs d)) z)
+    let y : Ok (record { mantissa = n .mantissa; exponent = n .exponent }) ≡ Ok d = sym (cond-false (n .negative) (Err NumberOutOfRange) (Ok (record { mantissa = n .mantissa; exponent = n .exponent })) f) ∙ x in
+    let z : record { mantissa = n .mantissa; exponent = n .exponent } ≡ d = cc in
+    ap (λ b. Ok (record { negative = b; mantissa = n .mantissa; exponent = n .exponent })) f ∙ ap (λ (d : Deviation). Ok (numberAs d)) z)
     (cases-bool (n .negative))
 
 as-number : (d : Deviation) → Canonical 5 (numberAs d) → CanonicalDeviation d

@@ -67,11 +67,11 @@ digits-read k m r h =
     let n′ : count u ≡ k = fixed-count k m (69 ∷ r) ∙ omega arith in
     let p′ : past u ≡ 69 ∷ r = fixed-past k m (69 ∷ r) in
     let a : afterWhole (digitsFrom 0 ((48 + d) ∷ (46 ∷ u))) (count ((48 + d) ∷ (46 ∷ u))) (past ((48 + d) ∷ (46 ∷ u))) ≡ afterWhole d 1 (46 ∷ u) =
-        ap (λ x. afterWhole x (count ((48 + d) ∷ (46 ∷ u))) (past ((48 + d) ∷ (46 ∷ u)))) v
-        ∙ (ap (λ x. afterWhole d x (past ((48 + d) ∷ (46 ∷ u)))) n ∙ ap (λ x. afterWhole d 1 x) p) in
+    ap (λ x. afterWhole x (count ((48 + d) ∷ (46 ∷ u))) (past ((48 + d) ∷ (46 ∷ u)))) v
+    ∙ (ap (λ x. afterWhole d x (past ((48 + d) ∷ (46 ∷ u)))) n ∙ ap (λ x. afterWhole d 1 x) p) in
     a ∙ (ap (λ x. record { value = x; count = 1 + count u; places = count u; rest = past u }) v′
-      ∙ (ap (λ x. record { value = m; count = 1 + x; places = x; rest = past u }) n′
-      ∙ ap (λ x. record { value = m; count = 1 + k; places = k; rest = x }) p′))
+    ∙ (ap (λ x. record { value = m; count = 1 + x; places = x; rest = past u }) n′
+    ∙ ap (λ x. record { value = m; count = 1 + k; places = k; rest = x }) p′))
 
 said-read : (neg : Bool) (k m : ℕ) (q : ℤ) → m < 10 ^ (k + 1) → negsuc 98 ≤ℤ q → q ≤ℤ pos 99 → saidBy neg (digitsOfText (digitsText k m q)) ≡ Some (record { negative = neg; value = m; power = q -ℤ pos k })
 said-read neg k m q h a b =

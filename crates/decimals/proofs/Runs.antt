@@ -60,7 +60,7 @@ pub numeral-run : (ds : List ℕ) → OnlyDigits ds → 1 ≤ length ds → leng
 numeral-run ds o a b =
     let p : past ds ≡ [] = ap past (sym (append-nil ds)) ∙ run-past ds [] o in
     cond-true _ _ _ (and-from (leb 1 (length ds)) (leb (length ds) 9 && isEmpty (past ds)) (le-leb 1 (length ds) a)
-        (and-from (leb (length ds) 9) (isEmpty (past ds)) (le-leb (length ds) 9 b) (ap isEmpty p)))
+    (and-from (leb (length ds) 9) (isEmpty (past ds)) (le-leb (length ds) 9 b) (ap isEmpty p)))
 
 pub numeral-fixed : (k m : ℕ) → 1 ≤ k → k ≤ 9 → numeral (fixed k m) ≡ Some (m % 10 ^ k)
 numeral-fixed k m a b =
@@ -80,12 +80,12 @@ tenths-run ds y o d a b =
     let m′ : count (y ∷ []) ≡ 1 = cond-true _ _ _ d in
     let p′ : past (y ∷ []) ≡ [] = cond-true _ _ _ d in
     let e : digitsOfText t ≡ record { value = n * 10 + (y - 48); count = length ds + 1; places = 1; rest = [] } =
-        ap (λ x. afterWhole x (count t) (past t)) v
-        ∙ (ap (λ x. afterWhole n x (past t)) m
-        ∙ (ap (λ x. afterWhole n (length ds) x) p
-        ∙ (ap (λ x. record { value = x; count = length ds + count (y ∷ []); places = count (y ∷ []); rest = past (y ∷ []) }) v′
-        ∙ (ap (λ x. record { value = n * 10 + (y - 48); count = length ds + x; places = x; rest = past (y ∷ []) }) m′
-        ∙ ap (λ x. record { value = n * 10 + (y - 48); count = length ds + 1; places = 1; rest = x }) p′)))) in
+    ap (λ x. afterWhole x (count t) (past t)) v
+    ∙ (ap (λ x. afterWhole n x (past t)) m
+    ∙ (ap (λ x. afterWhole n (length ds) x) p
+    ∙ (ap (λ x. record { value = x; count = length ds + count (y ∷ []); places = count (y ∷ []); rest = past (y ∷ []) }) v′
+    ∙ (ap (λ x. record { value = n * 10 + (y - 48); count = length ds + x; places = x; rest = past (y ∷ []) }) m′
+    ∙ ap (λ x. record { value = n * 10 + (y - 48); count = length ds + 1; places = 1; rest = x }) p′)))) in
     let l : length t ≤ 9 = omega (arith, length-append ds r) in
     ap (λ (x : Digits). cond (leb (length t) 9 && (leb 2 (x .count) && (eqb (x .places) 1 && isEmpty (x .rest)))) (Some (x .value)) None) e
     ∙ cond-true _ _ _ (and-from (leb (length t) 9) (leb 2 (length ds + 1) && true) (le-leb (length t) 9 l) (and-from (leb 2 (length ds + 1)) true (le-leb 2 (length ds + 1) (omega arith)) refl))
@@ -114,12 +114,16 @@ blanked-read (c ∷ []) r o h = whole-run c [] r o refl
 blanked-read (c ∷ (d ∷ ds)) r o h =
     ⊎-elim
     (λ t.
-        let s = blanked-read (d ∷ ds) r (o .1) (omega arith) in
-        let z : c ≡ 48 = eqb-true c 48 t in
-        record {
-            digits = s .digits; only = s .only; some = s .some; few = omega (arith, s .few);
-            value = s .value ∙ ap (λ x. digitsFrom 0 (x ∷ (d ∷ ds))) (sym z);
-            read = ap (λ t. unblank (t ++ r)) (cond-true (eqb c 48) (32 ∷ blanked (d ∷ ds)) (c ∷ (d ∷ ds)) t) ∙ s .read })
+    let s = blanked-read (d ∷ ds) r (o .1) (omega arith) in
+    let z : c ≡ 48 = eqb-true c 48 t in
+    record {
+      digits = s .digits;
+      only = s .only;
+      some = s .some;
+      few = omega (arith, s .few);
+      value = s .value ∙ ap (λ x. digitsFrom 0 (x ∷ (d ∷ ds))) (sym z);
+      read = ap (λ t. unblank (t ++ r)) (cond-true (eqb c 48) (32 ∷ blanked (d ∷ ds)) (c ∷ (d ∷ ds)) t) ∙ s .read;
+    })
     (λ f. whole-run c (d ∷ ds) r o (cond-false _ _ _ f))
     (cases-bool (eqb c 48))
 
@@ -138,20 +142,29 @@ last-blank d ds r o e =
     let n : eqb d 32 ≡ false = ne-eqb d 32 (λ z. omega (arith, digit-range d (o .0) .0)) in
     let m : marked (32 ∷ (d ∷ ds)) ≡ 45 ∷ (d ∷ ds) = cond-false _ _ _ n in
     record {
-        digits = d ∷ ds; only = o; some = omega arith; few = omega arith; value = refl;
-        read = ap (λ t. unblank (marked (32 ∷ t) ++ r)) e ∙ ap (λ t. unblank (t ++ r)) m }
+      digits = d ∷ ds;
+      only = o;
+      some = omega arith;
+      few = omega arith;
+      value = refl;
+      read = ap (λ t. unblank (marked (32 ∷ t) ++ r)) e ∙ ap (λ t. unblank (t ++ r)) m;
+    }
 
 marked-zero : (d : ℕ) (ds r : List ℕ) → OnlyDigits (d ∷ ds) → Marked (48 ∷ (d ∷ ds)) r
 marked-zero d [] r o = last-blank d [] r o refl
 marked-zero d (e ∷ es) r o =
     ⊎-elim
     (λ t.
-        let z : d ≡ 48 = eqb-true d 48 t in
-        let s = marked-zero e es r (o .1) in
-        record {
-            digits = s .digits; only = s .only; some = s .some; few = omega (arith, s .few);
-            value = s .value ∙ ap (λ x. digitsFrom 0 (48 ∷ (x ∷ (e ∷ es)))) (sym z);
-            read = ap (λ x. unblank (marked (blanked (48 ∷ (x ∷ (e ∷ es)))) ++ r)) z ∙ s .read })
+    let z : d ≡ 48 = eqb-true d 48 t in
+    let s = marked-zero e es r (o .1) in
+    record {
+      digits = s .digits;
+      only = s .only;
+      some = s .some;
+      few = omega (arith, s .few);
+      value = s .value ∙ ap (λ x. digitsFrom 0 (48 ∷ (x ∷ (e ∷ es)))) (sym z);
+      read = ap (λ x. unblank (marked (blanked (48 ∷ (x ∷ (e ∷ es)))) ++ r)) z ∙ s .read;
+    })
     (λ f. last-blank d (e ∷ es) r o (cond-false _ _ _ f))
     (cases-bool (eqb d 48))
 
@@ -177,9 +190,14 @@ justified-plain w n r h l =
     let s = right-shown w n r h in
     let f = front-of (s .digits) r (s .only) (s .some) in
     record {
-        digits = s .digits; only = s .only; some = s .some; few = omega (arith, s .few, length-fixed w n);
-        value = s .value ∙ (fixed-number w n ∙ mod-eq-of-lt l);
-        sign = ap minus (s .read) ∙ f .0; rest = ap unsigned (s .read) ∙ f .1 }
+      digits = s .digits;
+      only = s .only;
+      some = s .some;
+      few = omega (arith, s .few, length-fixed w n);
+      value = s .value ∙ (fixed-number w n ∙ mod-eq-of-lt l);
+      sign = ap minus (s .read) ∙ f .0;
+      rest = ap unsigned (s .read) ∙ f .1;
+    }
 
 -- with a sign there is a column less for the digits
 justified-minus : (w n : ℕ) (r : List ℕ) → n < 10 ^ (w + 1) → Justified true (w + 2) n r
@@ -193,9 +211,14 @@ justified-minus w n r l =
     let e : unblank (justified true (w + 2) n ++ r) ≡ 45 ∷ (s .digits ++ r) = ap (λ t. unblank (marked (blanked t) ++ r)) f ∙ s .read in
     let g : n < 10 ^ (w + 2) = subst (λ x. n < x) (sym (ap (λ k. 10 ^ k) two)) (omega (arith, l′, ten-mono (suc w) (suc (suc w)) (omega arith))) in
     record {
-        digits = s .digits; only = s .only; some = s .some; few = omega (arith, s .few, length-fixed (suc w) n);
-        value = s .value ∙ (ap (digitsFrom 0) (sym f) ∙ (fixed-number (w + 2) n ∙ mod-eq-of-lt g));
-        sign = ap minus e; rest = ap unsigned e }
+      digits = s .digits;
+      only = s .only;
+      some = s .some;
+      few = omega (arith, s .few, length-fixed (suc w) n);
+      value = s .value ∙ (ap (digitsFrom 0) (sym f) ∙ (fixed-number (w + 2) n ∙ mod-eq-of-lt g));
+      sign = ap minus e;
+      rest = ap unsigned e;
+    }
 
 pub justified-read : (neg : Bool) (w n : ℕ) (r : List ℕ) → n < 10 ^ (w + 1) → Justified neg (w + 2) n r
 justified-read true w n r l = justified-minus w n r l

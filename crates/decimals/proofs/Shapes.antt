@@ -16,6 +16,7 @@ use Rattle.std.proofs.shelf.Tests.{cond-true, cond-false, cases-bool, eqb-true,
 use Rattle.decimals.specs.Scan.{unblank, minus, unsigned, isDigit, digitsFrom, count, past}
 use Rattle.decimals.specs.Number.{Digits, Said, afterWhole, digitsOfText, blank, exponent, exponentDigits, signed, said, saidBy}
 use Rattle.decimals.specs.Grammar.{OnlyDigits, Sign, Parts, Mantissa, Power, NoPower, WellFormed, spelled, meant, NumbersHaveForm}
+use Rattle.decimals.proofs.Faults.{nothing}
 use Rattle.decimals.proofs.Forms.{exponent-yes}
 use Rattle.decimals.proofs.Reading.{saidBy-some}
 use Rattle.decimals.proofs.Runs.{run-count, run-past, run-value, digit-front}
@@ -65,7 +66,7 @@ power-digits neg ds n o a b =
     exponent-yes neg (ds ++ bl) (omega (arith, m)) (omega (arith, m)) (ap blank p ∙ blank-blanks n) ∙ ap (λ x. Some (signed neg x)) v
 
 after-letter : (sg ds : List ℕ) (n : ℕ) → Sign sg → OnlyDigits ds → 1 ≤ length ds → length ds ≤ 2
-  → exponentDigits (minus (sg ++ (ds ++ replicate n 32))) (unsigned (sg ++ (ds ++ replicate n 32))) ≡ Some (signed (minus sg) (digitsFrom 0 ds))
+    → exponentDigits (minus (sg ++ (ds ++ replicate n 32))) (unsigned (sg ++ (ds ++ replicate n 32))) ≡ Some (signed (minus sg) (digitsFrom 0 ds))
 after-letter sg ds n s o a b =
     let r = sign-read sg (ds ++ replicate n 32) s (digits-plain ds (replicate n 32) o a) in
     ap (λ x. exponentDigits x (unsigned (sg ++ (ds ++ replicate n 32)))) (r .minus)
@@ -93,7 +94,7 @@ ending p (inl w) =
 
 -- the digits of a mantissa before an ending
 with-point : (ws fs t : List ℕ) (e : ℤ) → OnlyDigits ws → OnlyDigits fs → Ending t e
-  → digitsOfText (ws ++ (46 ∷ (fs ++ t))) ≡ record { value = digitsFrom 0 (ws ++ fs); count = length ws + length fs; places = length fs; rest = t }
+    → digitsOfText (ws ++ (46 ∷ (fs ++ t))) ≡ record { value = digitsFrom 0 (ws ++ fs); count = length ws + length fs; places = length fs; rest = t }
 with-point ws fs t e a b w =
     let u : List ℕ = fs ++ t in
     let x : List ℕ = ws ++ (46 ∷ u) in
@@ -109,7 +110,7 @@ with-point ws fs t e a b w =
     ∙ ap (λ y. record { value = digitsFrom 0 (ws ++ fs); count = length ws + length fs; places = length fs; rest = y }) p))))
 
 without-point : (ws t : List ℕ) (e : ℤ) → OnlyDigits ws → Ending t e
-  → digitsOfText (ws ++ t) ≡ record { value = digitsFrom 0 (ws ++ []); count = length ws + 0; places = 0; rest = t }
+    → digitsOfText (ws ++ t) ≡ record { value = digitsFrom 0 (ws ++ []); count = length ws + 0; places = 0; rest = t }
 without-point ws t e a w =
     let x : List ℕ = ws ++ t in
     let v : ℕ = digitsFrom 0 ws in
@@ -159,10 +160,11 @@ sign-split [] = ([], inl refl, refl)
 sign-split (c ∷ cs) =
     ⊎-elim
     (λ t.
-        let e : unsigned (c ∷ cs) ≡ cs = cond-true _ _ _ t in
-        ( c ∷ []
-        , ⊎-elim (λ y. inr (inr (ap (λ x. x ∷ []) (eqb-true c 45 y)))) (λ y. inr (inl (ap (λ x. x ∷ []) (eqb-true c 43 y)))) (or-cases (eqb c 45) (eqb c 43) t)
-        , ap (λ x. c ∷ x) (sym e)))
+    let e : unsigned (c ∷ cs) ≡ cs = cond-true _ _ _ t in (
+      c ∷ [],
+      ⊎-elim (λ y. inr (inr (ap (λ x. x ∷ []) (eqb-true c 45 y)))) (λ y. inr (inl (ap (λ x. x ∷ []) (eqb-true c 43 y)))) (or-cases (eqb c 45) (eqb c 43) t),
+      ap (λ x. c ∷ x) (sym e),
+    ))
     (λ f. ([], inl refl, sym (cond-false _ _ _ f)))
     (cases-bool (eqb c 45 || eqb c 43))
 
@@ -178,10 +180,10 @@ run-split [] = record { digits = []; only = tt; size = refl; is = refl }
 run-split (c ∷ cs) =
     ⊎-elim
     (λ y.
-        let r = run-split cs in
-        let n : count (c ∷ cs) ≡ 1 + count cs = cond-true _ _ _ y in
-        let p : past (c ∷ cs) ≡ past cs = cond-true _ _ _ y in
-        record { digits = c ∷ r .digits; only = (y, r .only); size = omega (arith, n, r .size); is = ap (λ x. c ∷ x) (r .is ∙ ap (λ x. r .digits ++ x) (sym p)) })
+    let r = run-split cs in
+    let n : count (c ∷ cs) ≡ 1 + count cs = cond-true _ _ _ y in
+    let p : past (c ∷ cs) ≡ past cs = cond-true _ _ _ y in
+    record { digits = c ∷ r .digits; only = (y, r .only); size = omega (arith, n, r .size); is = ap (λ x. c ∷ x) (r .is ∙ ap (λ x. r .digits ++ x) (sym p)) })
     (λ f. record { digits = []; only = tt; size = sym (cond-false _ _ _ f); is = sym (cond-false _ _ _ f) })
     (cases-bool (isDigit c))
 
@@ -198,29 +200,46 @@ pub record Front (t : List ℕ) (d : Digits) : Type 0 where
 
 front-from : (t : List ℕ) (v : ℕ) (r : Run t) (u : List ℕ) → past t ≡ u → Front t (afterWhole v (count t) u)
 front-from t v r [] e = record {
-    whole = r .digits; point = []; fraction = []; wholes = r .only; fractions = tt; points = inr (refl, refl);
-    size = omega (arith, r .size); is = r .is ∙ ap (λ x. r .digits ++ x) e }
+  whole = r .digits;
+  point = [];
+  fraction = [];
+  wholes = r .only;
+  fractions = tt;
+  points = inr (refl, refl);
+  size = omega (arith, r .size);
+  is = r .is ∙ ap (λ x. r .digits ++ x) e;
+}
 front-from t v r (c ∷ cs) e =
     ⊎-elim
     (λ y.
-        let q = run-split cs in
-        subst (Front t) (sym (cond-true {A = Digits} (eqb c 46) (record { value = digitsFrom v cs; count = count t + count cs; places = count cs; rest = past cs }) (record { value = v; count = count t; places = 0; rest = c ∷ cs }) y))
-        (record {
-            whole = r .digits; point = 46 ∷ []; fraction = q .digits; wholes = r .only; fractions = q .only; points = inl refl;
-            size = omega (arith, r .size, q .size);
-            is = r .is ∙ ap (λ x. r .digits ++ x) (e ∙ (ap (λ x. x ∷ cs) (eqb-true c 46 y) ∙ ap (λ x. 46 ∷ x) (q .is))) }))
+    let q = run-split cs in
+    subst (Front t) (sym (cond-true {A = Digits} (eqb c 46) (record { value = digitsFrom v cs; count = count t + count cs; places = count cs; rest = past cs }) (record { value = v; count = count t; places = 0; rest = c ∷ cs }) y))
+    (record {
+      whole = r .digits;
+      point = 46 ∷ [];
+      fraction = q .digits;
+      wholes = r .only;
+      fractions = q .only;
+      points = inl refl;
+      size = omega (arith, r .size, q .size);
+      is = r .is ∙ ap (λ x. r .digits ++ x) (e ∙ (ap (λ x. x ∷ cs) (eqb-true c 46 y) ∙ ap (λ x. 46 ∷ x) (q .is)));
+    }))
     (λ f.
-        subst (Front t) (sym (cond-false {A = Digits} (eqb c 46) (record { value = digitsFrom v cs; count = count t + count cs; places = count cs; rest = past cs }) (record { value = v; count = count t; places = 0; rest = c ∷ cs }) f))
-        (record {
-            whole = r .digits; point = []; fraction = []; wholes = r .only; fractions = tt; points = inr (refl, refl);
-            size = omega (arith, r .size); is = r .is ∙ ap (λ x. r .digits ++ x) e }))
+    subst (Front t) (sym (cond-false {A = Digits} (eqb c 46) (record { value = digitsFrom v cs; count = count t + count cs; places = count cs; rest = past cs }) (record { value = v; count = count t; places = 0; rest = c ∷ cs }) f))
+    (record {
+      whole = r .digits;
+      point = [];
+      fraction = [];
+      wholes = r .only;
+      fractions = tt;
+      points = inr (refl, refl);
+      size = omega (arith, r .size);
+      is = r .is ∙ ap (λ x. r .digits ++ x) e;
+    }))
     (cases-bool (eqb c 46))
 
 front-split : (t : List ℕ) → Front t (digitsOfText t)
 front-split t = front-from t (digitsFrom 0 t) (run-split t) (past t) refl
-
-nothing : {A : Type 0} (a : A) → _≡_ {A = Option A} None (Some a) → ⊥
-nothing a e = let z : _≡_ {A = ℕ} 0 1 = cc in omega arith
 
 -- what an exponent or blanks are made of
 pub record Back (t : List ℕ) : Type 0 where
@@ -241,13 +260,17 @@ letter-back c cs e l x =
     let r = run-split u in
     ⊎-elim
     (λ y.
-        let p = and-parts (leb 1 (count u) && leb (count u) 2) (blank (past u)) y in
-        let q = and-parts (leb 1 (count u)) (leb (count u) 2) (p .0) in
-        let b = blank-is (past u) (p .1) in
-        record {
-            letter = c ∷ []; sign = s .0; power = r .digits; after = b .0;
-            is = ap (λ t. c ∷ t) (s .2 ∙ ap (λ t. s .0 ++ t) (r .is ∙ ap (λ t. r .digits ++ t) (b .1)));
-            form = inl (⊎-elim (λ z. inl (ap (λ k. k ∷ []) z)) (λ z. inr (ap (λ k. k ∷ []) z)) l, s .1, r .only, omega (arith, r .size, leb-true 1 (count u) (q .0)), omega (arith, r .size, leb-true (count u) 2 (q .1))) })
+    let p = and-parts (leb 1 (count u) && leb (count u) 2) (blank (past u)) y in
+    let q = and-parts (leb 1 (count u)) (leb (count u) 2) (p .0) in
+    let b = blank-is (past u) (p .1) in
+    record {
+      letter = c ∷ [];
+      sign = s .0;
+      power = r .digits;
+      after = b .0;
+      is = ap (λ t. c ∷ t) (s .2 ∙ ap (λ t. s .0 ++ t) (r .is ∙ ap (λ t. r .digits ++ t) (b .1)));
+      form = inl (⊎-elim (λ z. inl (ap (λ k. k ∷ []) z)) (λ z. inr (ap (λ k. k ∷ []) z)) l, s .1, r .only, omega (arith, r .size, leb-true 1 (count u) (q .0)), omega (arith, r .size, leb-true (count u) 2 (q .1)));
+    })
     (λ f. absurd (nothing e (sym (cond-false (leb 1 (count u) && leb (count u) 2 && blank (past u)) (Some (signed (minus cs) (digitsFrom 0 u))) None f) ∙ x)))
     (cases-bool (leb 1 (count u) && leb (count u) 2 && blank (past u)))
 
@@ -256,10 +279,10 @@ back-split [] e x = blanks-back [] refl
 back-split (c ∷ cs) e x =
     ⊎-elim
     (λ y. letter-back c cs e (⊎-elim (λ z. inl (eqb-true c 69 z)) (λ z. inr (eqb-true c 101 z)) (or-cases (eqb c 69) (eqb c 101) y))
-        (sym (cond-true (eqb c 69 || eqb c 101) (exponentDigits (minus cs) (unsigned cs)) (cond (blank (c ∷ cs)) (Some (pos 0)) None) y) ∙ x))
+    (sym (cond-true (eqb c 69 || eqb c 101) (exponentDigits (minus cs) (unsigned cs)) (cond (blank (c ∷ cs)) (Some (pos 0)) None) y) ∙ x))
     (λ f.
-        let g : cond (blank (c ∷ cs)) (Some (pos 0)) None ≡ Some e = sym (cond-false (eqb c 69 || eqb c 101) (exponentDigits (minus cs) (unsigned cs)) (cond (blank (c ∷ cs)) (Some (pos 0)) None) f) ∙ x in
-        ⊎-elim (λ y. blanks-back (c ∷ cs) y) (λ n. absurd (nothing e (sym (cond-false (blank (c ∷ cs)) (Some (pos 0)) None n) ∙ g))) (cases-bool (blank (c ∷ cs))))
+    let g : cond (blank (c ∷ cs)) (Some (pos 0)) None ≡ Some e = sym (cond-false (eqb c 69 || eqb c 101) (exponentDigits (minus cs) (unsigned cs)) (cond (blank (c ∷ cs)) (Some (pos 0)) None) f) ∙ x in
+    ⊎-elim (λ y. blanks-back (c ∷ cs) y) (λ n. absurd (nothing e (sym (cond-false (blank (c ∷ cs)) (Some (pos 0)) None n) ∙ g))) (cases-bool (blank (c ∷ cs))))
     (cases-bool (eqb c 69 || eqb c 101))
 
 -- a mantissa that says something has a digit and an exponent in due form
@@ -284,13 +307,15 @@ said-form bs s x =
     let m = front-split t in
     let y = said-parts (minus u) (digitsOfText t) s x in
     let k = back-split (digitsOfText t .rest) (y .1 .0) (y .1 .1) in
-    let p : Parts = record { before = b .0; sign = g .0; whole = m .whole; point = m .point; fraction = m .fraction; letter = k .letter; powerSign = k .sign; power = k .power; after = k .after } in
-    ( p
-    , record {
+    let p : Parts = record { before = b .0; sign = g .0; whole = m .whole; point = m .point; fraction = m .fraction; letter = k .letter; powerSign = k .sign; power = k .power; after = k .after } in (
+      p,
+      record {
         sign = g .1;
         mantissa = record { whole = m .wholes; fraction = m .fractions; point = m .points; some = omega (arith, m .size, y .0) };
-        exponent = ⊎-elim (λ w. inl (record { letter = w .0; sign = w .1; digits = w .2; some = w .3; few = w .4 })) (λ w. inr w) (k .form) }
-    , sym (b .1 ∙ ap (λ z. replicate (b .0) 32 ++ z) (g .2 ∙ ap (λ z. g .0 ++ z) (m .is ∙ ap (λ z. m .whole ++ (m .point ++ (m .fraction ++ z))) (k .is)))))
+        exponent = ⊎-elim (λ w. inl (record { letter = w .0; sign = w .1; digits = w .2; some = w .3; few = w .4 })) (λ w. inr w) (k .form);
+      },
+      sym (b .1 ∙ ap (λ z. replicate (b .0) 32 ++ z) (g .2 ∙ ap (λ z. g .0 ++ z) (m .is ∙ ap (λ z. m .whole ++ (m .point ++ (m .fraction ++ z))) (k .is)))),
+    )
 
 pub numbers-have-form : NumbersHaveForm
 numbers-have-form = (form-said, said-form)

@@ -31,13 +31,13 @@ pub fitted-back : (neg : Bool) (a b : ℕ) (q : ℤ) (n : Number) → fitted neg
 fitted-back neg a b q n e =
     ⊎-elim
     (λ t.
-        let p = and-parts (eqb (a % b) 0) (inRange q) t in
-        let r = and-parts (leZ (negsuc 98) q) (leZ q (pos 99)) (p .1) in
-        let f : fitted neg a b q ≡ Ok (record { negative = neg; mantissa = a / b; exponent = q }) = cond-true _ _ _ t in
-        record { whole = eqb-true (a % b) 0 (p .0); low = grind (arith, ints); high = grind (arith, ints); is = cc })
+    let p = and-parts (eqb (a % b) 0) (inRange q) t in
+    let r = and-parts (leZ (negsuc 98) q) (leZ q (pos 99)) (p .1) in
+    let f : fitted neg a b q ≡ Ok (record { negative = neg; mantissa = a / b; exponent = q }) = cond-true _ _ _ t in
+    record { whole = eqb-true (a % b) 0 (p .0); low = grind (arith, ints); high = grind (arith, ints); is = cc })
     (λ f.
-        let g : fitted neg a b q ≡ Err NumberOutOfRange = cond-false _ _ _ f in
-        let z : _≡_ {A = ℕ} 0 1 = cc in absurd (omega arith))
+    let g : fitted neg a b q ≡ Err NumberOutOfRange = cond-false _ _ _ f in
+    let z : _≡_ {A = ℕ} 0 1 = cc in absurd (omega arith))
     (cases-bool (eqb (a % b) 0 && inRange q))
 
 pub shift : (v m d k a b : ℕ) → m * 10 ^ d ≡ v * 10 ^ (k + 1) → b + (k + 1) ≡ a + d → v * 10 ^ a ≡ m * 10 ^ b
@@ -78,9 +78,10 @@ read-zero k s n z e =
     let y = scaled-zero (10 ^ (k + 1)) s z in
     let w : n ≡ zeroNumber = cc in
     record {
-        value = ap (λ v. units v (s .power)) z ∙ (zero-times (s .power) ∙ (sym (zero-times (pos 0 -ℤ pos k)) ∙ ap (worth k) (sym w)));
-        held = inl w;
-        sign = inl (z, w) }
+      value = ap (λ v. units v (s .power)) z ∙ (zero-times (s .power) ∙ (sym (zero-times (pos 0 -ℤ pos k)) ∙ ap (worth k) (sym w)));
+      held = inl w;
+      sign = inl (z, w);
+    }
 
 read-some : (k : ℕ) (s : Said) (n : Number) → k ≤ 14 → negsuc 199 ≤ℤ s .power → 0 < s .value → scaled (10 ^ (k + 1)) s ≡ Ok n → Read k s n
 read-some k s n h l p e =
@@ -93,9 +94,10 @@ read-some k s n h l p e =
     let lo : 10 ^ k * 10 ^ d ≤ m * 10 ^ d = subst (λ x. 10 ^ k * 10 ^ d ≤ x) (sym exact) (bound-lo v k (r .0) d (r .1) (r .2)) in
     let hi : m * 10 ^ d < 10 ^ (k + 1) * 10 ^ d = subst (λ x. x < 10 ^ (k + 1) * 10 ^ d) (sym exact) (bound-hi v k d (size-above v)) in
     record {
-        value = shift v m d k (natAbs (s .power +ℤ pos 200)) (natAbs ((topOf s -ℤ pos k) +ℤ pos 200)) exact (places-add k d (s .power) h l (f .low)) ∙ ap (worth k) (sym (f .is));
-        held = inr (subst (λ x. (10 ^ k ≤ x .mantissa) × (x .mantissa < 10 ^ (k + 1)) × (negsuc 98 ≤ℤ x .exponent) × (x .exponent ≤ℤ pos 99)) (sym (f .is)) (cancel-le (10 ^ k) m d lo, cancel-lt m (10 ^ (k + 1)) d hi, f .low, f .high));
-        sign = inr (p, ap (λ x. x .negative) (f .is)) }
+      value = shift v m d k (natAbs (s .power +ℤ pos 200)) (natAbs ((topOf s -ℤ pos k) +ℤ pos 200)) exact (places-add k d (s .power) h l (f .low)) ∙ ap (worth k) (sym (f .is));
+      held = inr (subst (λ x. (10 ^ k ≤ x .mantissa) × (x .mantissa < 10 ^ (k + 1)) × (negsuc 98 ≤ℤ x .exponent) × (x .exponent ≤ℤ pos 99)) (sym (f .is)) (cancel-le (10 ^ k) m d lo, cancel-lt m (10 ^ (k + 1)) d hi, f .low, f .high));
+      sign = inr (p, ap (λ x. x .negative) (f .is));
+    }
 
 pub read-value : (k : ℕ) (s : Said) (n : Number) → k ≤ 14 → negsuc 199 ≤ℤ s .power → scaled (10 ^ (k + 1)) s ≡ Ok n → Read k s n
 read-value k s n h l e = ⊎-elim (λ z. read-zero k s n z e) (λ z. read-some k s n h l (omega arith) e) (cases-eq (s .value) 0)
@@ -140,20 +142,21 @@ same-from-values k s t m n h r q e =
     ⊎-elim
     (λ z. let y = worth-zero k n (q .held) (sym w ∙ zero-worth k m (z .1)) in z .1 ∙ sym y)
     (λ x. ⊎-elim
-        (λ z. let y = worth-zero k m (r .held) (w ∙ zero-worth k n (z .1)) in y ∙ sym (z .1))
-        (λ y. same-number m n (x .1 ∙ (⊎-elim (λ g. g) (λ z. absurd (omega (arith, z, x .0))) (e .1) ∙ sym (y .1))) (u .0) (u .1))
-        (q .sign))
+    (λ z. let y = worth-zero k m (r .held) (w ∙ zero-worth k n (z .1)) in y ∙ sym (z .1))
+    (λ y. same-number m n (x .1 ∙ (⊎-elim (λ g. g) (λ z. absurd (omega (arith, z, x .0))) (e .1) ∙ sym (y .1))) (u .0) (u .1))
+    (q .sign))
     (r .sign)
 
 pub values-from-same : (k : ℕ) (s t : Said) (m n : Number) → Read k s m → Read k t n → m ≡ n → SameValue s t
-values-from-same k s t m n r q e =
-    ( r .value ∙ (ap (worth k) e ∙ sym (q .value))
-    , ⊎-elim (λ z. inr (z .0))
+values-from-same k s t m n r q e = (
+  r .value ∙ (ap (worth k) e ∙ sym (q .value)),
+  ⊎-elim (λ z. inr (z .0))
       (λ x. ⊎-elim
-          (λ z. absurd (omega (arith, times-pos (s .value) (natAbs (s .power +ℤ pos 200)) (x .0), r .value, zero-worth k m (e ∙ z .1))))
-          (λ y. inl (sym (x .1) ∙ (ap (λ n. n .negative) e ∙ y .1)))
-          (q .sign))
-      (r .sign))
+      (λ z. absurd (omega (arith, times-pos (s .value) (natAbs (s .power +ℤ pos 200)) (x .0), r .value, zero-worth k m (e ∙ z .1))))
+      (λ y. inl (sym (x .1) ∙ (ap (λ n. n .negative) e ∙ y .1)))
+      (q .sign))
+      (r .sign),
+)
 
 -- a value that a number has is read
 top-is-exponent : (k d : ℕ) (p q : ℤ) → k ≤ 14 → negsuc 199 ≤ℤ p → negsuc 98 ≤ℤ q → d + natAbs (p +ℤ pos 200) ≡ (k + 1) + natAbs ((q -ℤ pos k) +ℤ pos 200) → (p +ℤ pos d) -ℤ pos 1 ≡ q
@@ -181,6 +184,7 @@ value-read k s n h l (inr w) e =
     let g : n .mantissa * 10 ^ d ≡ v * 10 ^ (k + 1) = shift-back v (n .mantissa) d k a b e y in
     let whole : (v * 10 ^ (k + 1)) % 10 ^ d ≡ 0 = ap (λ x. x % 10 ^ d) (sym g) ∙ mul-mod-left (n .mantissa) (10 ^ d) in
     let lo : ltZ (n .exponent) (negsuc 98) ≡ false = grind (arith, ints) in
-    let hi : ltZ (pos 99) (n .exponent) ≡ false = grind (arith, ints) in
-    ( record { negative = s .negative; mantissa = v * 10 ^ (k + 1) / 10 ^ d; exponent = topOf s }
-    , scaled-fits (10 ^ (k + 1)) s nz ∙ fitted-yes (s .negative) (v * 10 ^ (k + 1)) (10 ^ d) (topOf s) whole (subst (λ q. ltZ q (negsuc 98) ≡ false) (sym t) lo) (subst (λ q. ltZ (pos 99) q ≡ false) (sym t) hi))
+    let hi : ltZ (pos 99) (n .exponent) ≡ false = grind (arith, ints) in (
+      record { negative = s .negative; mantissa = v * 10 ^ (k + 1) / 10 ^ d; exponent = topOf s },
+      scaled-fits (10 ^ (k + 1)) s nz ∙ fitted-yes (s .negative) (v * 10 ^ (k + 1)) (10 ^ d) (topOf s) whole (subst (λ q. ltZ q (negsuc 98) ≡ false) (sym t) lo) (subst (λ q. ltZ (pos 99) q ≡ false) (sym t) hi),
+    )

@@ -51,8 +51,9 @@ by-said unit bs (Some s) h x =
     record { formless = λ t. absurd (false≢true (sym f ∙ t)); wrong = λ n. absurd (n (q .0) (q .1) (q .2)) }
 by-said unit bs None h x =
     record {
-        formless = λ t p w e. let y : Some (meant p) ≡ None = sym (numbers-have-form .0 p w) ∙ (ap said e ∙ x) in let z : _≡_ {A = ℕ} 0 1 = cc in omega arith;
-        wrong = λ n. readAt-said unit bs h ∙ ap (numberOf unit) x }
+      formless = λ t p w e. let y : Some (meant p) ≡ None = sym (numbers-have-form .0 p w) ∙ (ap said e ∙ x) in let z : _≡_ {A = ℕ} 0 1 = cc in omega arith;
+      wrong = λ n. readAt-said unit bs h ∙ ap (numberOf unit) x;
+    }
 
 -- a deviation is refused for its form where the number is
 deviation-form : (r : Result Number Fault) → deviationOf r ≡ Err WrongNumber → IsForm r ≡ true
@@ -66,6 +67,7 @@ deviation-form (Ok n) x =
 pub wrong-exactly : WrongExactly
 wrong-exactly bs h =
     let n = by-said (10 ^ 15) bs (said bs) h refl in
-    let d = by-said (10 ^ 6) bs (said bs) h refl in
-    ( (λ x. n .formless (ap IsForm x), λ f. n .wrong f)
-    , (λ x. d .formless (deviation-form (readAt (10 ^ 6) bs) x), λ f. ap deviationOf (d .wrong f)))
+    let d = by-said (10 ^ 6) bs (said bs) h refl in (
+      (λ x. n .formless (ap IsForm x), λ f. n .wrong f),
+      (λ x. d .formless (deviation-form (readAt (10 ^ 6) bs) x), λ f. ap deviationOf (d .wrong f)),
+    )

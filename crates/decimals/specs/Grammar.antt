@@ -69,12 +69,13 @@ abbrev pub meant : Parts → Said
 meant p = record {
   negative = minus (p .sign);
   value = digitsFrom 0 (p .whole ++ p .fraction);
-  power = signed (minus (p .powerSign)) (digitsFrom 0 (p .power)) -ℤ pos (length (p .fraction)) }
+  power = signed (minus (p .powerSign)) (digitsFrom 0 (p .power)) -ℤ pos (length (p .fraction));
+}
 
 -- a text of well-formed parts says what they mean, and no other text says anything
 abbrev pub NumbersHaveForm : Type 0
 NumbersHaveForm = ((p : Parts) → WellFormed p → said (spelled p) ≡ Some (meant p))
-  × ((bs : List ℕ) (s : Said) → said bs ≡ Some s → (p : Parts) × WellFormed p × (spelled p ≡ bs))
+    × ((bs : List ℕ) (s : Said) → said bs ≡ Some s → (p : Parts) × WellFormed p × (spelled p ≡ bs))
 
 -- no well-formed parts make the text
 abbrev pub Formless : List ℕ → Type 0
@@ -83,5 +84,5 @@ Formless bs = (p : Parts) → WellFormed p → spelled p ≡ bs → ⊥
 -- a field of at most 21 bytes has the wrong form exactly where no well-formed parts make it
 abbrev pub WrongExactly : Type 0
 WrongExactly = (bs : List ℕ) → length bs ≤ 21
-  → ((readNumber bs ≡ Err WrongNumber → Formless bs) × (Formless bs → readNumber bs ≡ Err WrongNumber))
-  × ((readDeviation bs ≡ Err WrongNumber → Formless bs) × (Formless bs → readDeviation bs ≡ Err WrongNumber))
+    → ((readNumber bs ≡ Err WrongNumber → Formless bs) × (Formless bs → readNumber bs ≡ Err WrongNumber))
+    × ((readDeviation bs ≡ Err WrongNumber → Formless bs) × (Formless bs → readDeviation bs ≡ Err WrongNumber))

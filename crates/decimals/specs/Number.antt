@@ -29,8 +29,8 @@ pub record Digits : Type 0 where
 abbrev pub afterWhole : ℕ → ℕ → List ℕ → Digits
 afterWhole v n [] = record { value = v; count = n; places = 0; rest = [] }
 afterWhole v n (c ∷ cs) = cond (eqb c 46)
-  (record { value = digitsFrom v cs; count = n + count cs; places = count cs; rest = past cs })
-  (record { value = v; count = n; places = 0; rest = c ∷ cs })
+    (record { value = digitsFrom v cs; count = n + count cs; places = count cs; rest = past cs })
+    (record { value = v; count = n; places = 0; rest = c ∷ cs })
 
 abbrev pub digitsOfText : List ℕ → Digits
 digitsOfText t = afterWhole (digitsFrom 0 t) (count t) (past t)
@@ -84,7 +84,7 @@ fitted neg a b q = cond (eqb (a % b) 0 && inRange q) (Ok (record { negative = ne
 -- the number of k digits, unit = 10 ^ k, that is ± value × 10 ^ power
 unfoldable pub scaled : ℕ → Said → Result Number Fault
 scaled unit s = cond (eqb (s .value) 0) (Ok zeroNumber)
-  (fitted (s .negative) (s .value * unit) (10 ^ size (s .value)) ((s .power +ℤ pos (size (s .value))) -ℤ pos 1))
+    (fitted (s .negative) (s .value * unit) (10 ^ size (s .value)) ((s .power +ℤ pos (size (s .value))) -ℤ pos 1))
 
 abbrev pub numberOf : ℕ → Option Said → Result Number Fault
 numberOf unit None = Err WrongNumber

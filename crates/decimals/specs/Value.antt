@@ -27,12 +27,12 @@ SameValue s t = (units (s .value) (s .power) ≡ units (t .value) (t .power)) ×
 -- the number read has the value that the text says, in whole units, and its sign where it is not zero
 abbrev pub ValueIsKept : Type 0
 ValueIsKept = (bs : List ℕ) (s : Said) (n : Number) → said bs ≡ Some s → readNumber bs ≡ Ok n
-  → (negsuc 199 ≤ℤ s .power) × (units (s .value) (s .power) ≡ worth 14 n) × ((n .negative ≡ s .negative) ⊎ (s .value ≡ 0))
+    → (negsuc 199 ≤ℤ s .power) × (units (s .value) (s .power) ≡ worth 14 n) × ((n .negative ≡ s .negative) ⊎ (s .value ≡ 0))
 
 -- two texts are read as the same number exactly where they say the same value
 abbrev pub SameExactly : Type 0
 SameExactly = (bs cs : List ℕ) (s t : Said) (m n : Number) → said bs ≡ Some s → said cs ≡ Some t → readNumber bs ≡ Ok m → readNumber cs ≡ Ok n
-  → (m ≡ n → SameValue s t) × (SameValue s t → m ≡ n)
+    → (m ≡ n → SameValue s t) × (SameValue s t → m ≡ n)
 
 -- a value has one mantissa and one exponent
 abbrev pub OneForm : Type 0
@@ -45,4 +45,4 @@ RefusedRightly = (bs : List ℕ) (s : Said) → said bs ≡ Some s → readNumbe
 -- the same of deviations: those of two texts are one exactly where the texts say one value
 abbrev pub SameDeviations : Type 0
 SameDeviations = (bs cs : List ℕ) (s t : Said) (d e : Deviation) → said bs ≡ Some s → said cs ≡ Some t → readDeviation bs ≡ Ok d → readDeviation cs ≡ Ok e
-  → (d ≡ e → SameValue s t) × (SameValue s t → d ≡ e)
+    → (d ≡ e → SameValue s t) × (SameValue s t → d ≡ e)

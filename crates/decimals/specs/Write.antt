@@ -50,10 +50,10 @@ CanonicalDeviation d = (d ≡ zeroDeviation) ⊎ Kept 5 (d .mantissa) (d .expone
 -- what reading gives is kept so, what is written of such a number is read as that number, and it fills its columns
 abbrev pub NumbersComeBack : Type 0
 NumbersComeBack = ((bs : List ℕ) (n : Number) → readNumber bs ≡ Ok n → Canonical 14 n)
-  × ((n : Number) → Canonical 14 n → readNumber (numberText n) ≡ Ok n)
-  × ((n : Number) → length (numberText n) ≡ 21)
+    × ((n : Number) → Canonical 14 n → readNumber (numberText n) ≡ Ok n)
+    × ((n : Number) → length (numberText n) ≡ 21)
 
 abbrev pub DeviationsComeBack : Type 0
 DeviationsComeBack = ((bs : List ℕ) (d : Deviation) → readDeviation bs ≡ Ok d → CanonicalDeviation d)
-  × ((d : Deviation) → CanonicalDeviation d → readDeviation (deviationText d) ≡ Ok d)
-  × ((d : Deviation) → length (deviationText d) ≡ 11)
+    × ((d : Deviation) → CanonicalDeviation d → readDeviation (deviationText d) ≡ Ok d)
+    × ((d : Deviation) → length (deviationText d) ≡ 11)

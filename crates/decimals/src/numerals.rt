@@ -19,7 +19,11 @@ pub fn read_numeral(s: &[u8]) -> Option<u32>
         return None;
     }
     let run = digits(s, 0);
-    if run.rest.is_empty() { Some(run.value as u32) } else { None }
+    if run.rest.is_empty() {
+        Some(run.value as u32)
+    } else {
+        None
+    }
 }
 
 // Digits, a point and one digit, and nothing else, in at most nine bytes: as tenths.
@@ -31,5 +35,9 @@ pub fn read_tenths(s: &[u8]) -> Option<u32>
         return None;
     }
     let m = take_mantissa(s);
-    if m.count >= 2 && m.places == 1 && m.rest.is_empty() { Some(m.value as u32) } else { None }
+    if m.count >= 2 && m.places == 1 && m.rest.is_empty() {
+        Some(m.value as u32)
+    } else {
+        None
+    }
 }

@@ -80,7 +80,11 @@ fn scale(negative: bool, value: u128, power: i32, unit: u128) -> Result<Number, 
     ensures { λ r. ⌜ r ≡ scaled unit (record { negative = negative; value = value; power = power }) ⌝ }
 {
     if value == 0 {
-        return Ok(Number { negative: false, mantissa: 0, exponent: 0 });
+        return Ok(Number {
+            negative: false,
+            mantissa: 0,
+            exponent: 0,
+        });
     }
     let size = size_of(value);
     let all = value * unit;
@@ -89,7 +93,11 @@ fn scale(negative: bool, value: u128, power: i32, unit: u128) -> Result<Number, 
         return Err(Fault::NumberOutOfRange);
     }
     let mantissa = (all / size.unit) as u64;
-    Ok(Number { negative, mantissa, exponent })
+    Ok(Number {
+        negative,
+        mantissa,
+        exponent,
+    })
 }
 
 fn read_at(text: &[u8], unit: u128) -> Result<Number, Fault>
@@ -122,5 +130,12 @@ pub fn read_deviation(text: &[u8]) -> Result<Deviation, Fault>
     ensures { λ r. ⌜ r ≡ readDeviation (now (text .entry)) ⌝ }
 {
     let n = read_at(text, 1_000_000)?;
-    if n.negative { Err(Fault::NumberOutOfRange) } else { Ok(Deviation { mantissa: n.mantissa, exponent: n.exponent }) }
+    if n.negative {
+        Err(Fault::NumberOutOfRange)
+    } else {
+        Ok(Deviation {
+            mantissa: n.mantissa,
+            exponent: n.exponent,
+        })
+    }
 }

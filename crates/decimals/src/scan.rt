@@ -55,7 +55,11 @@ pub(crate) fn digits(s: &[u8], v: u128) -> Run<'_>
         value = value * 10 + (s[i] - b'0') as u128;
         i += 1;
     }
-    Run { value, count: i, rest: &s[i..] }
+    Run {
+        value,
+        count: i,
+        rest: &s[i..],
+    }
 }
 
 // Whether there are only blanks.
@@ -88,8 +92,18 @@ pub(crate) fn take_mantissa(s: &[u8]) -> Mantissa<'_>
     let tail = whole.rest;
     if tail.len() > 0 && tail[0] == b'.' {
         let part = digits(&tail[1..], whole.value);
-        Mantissa { value: part.value, count: whole.count + part.count, places: part.count, rest: part.rest }
+        Mantissa {
+            value: part.value,
+            count: whole.count + part.count,
+            places: part.count,
+            rest: part.rest,
+        }
     } else {
-        Mantissa { value: whole.value, count: whole.count, places: 0, rest: tail }
+        Mantissa {
+            value: whole.value,
+            count: whole.count,
+            places: 0,
+            rest: tail,
+        }
     }
 }

@@ -1,5 +1,3 @@
-pub mod Faults
-pub mod Words
-pub mod Orders
 pub mod Stamps
-pub mod TypeTable
+pub mod Degrees
+pub mod Columns

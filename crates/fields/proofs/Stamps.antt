@@ -29,9 +29,9 @@ use Rattle.fields.specs.Epoch.{fullYear, daysIn, epochAt, epochOf, readEpoch, 
 use Rattle.fields.specs.declared.epochs.Epoch.{Epoch}
 use Rattle.fields.specs.declared.epochs.Epoch.the-variants.{Open, At}
 use Rattle.fields.specs.declared.epochs.Moment.{Moment}
-use Rattle.fields.specs.Order.{TotalOrder}
-use Rattle.fields.proofs.Faults.{no-fault}
-use Rattle.fields.proofs.Orders.{then-flip, then-trans, both, rank-flip, rank-trans, rank-same, rank-less, rank-equal, rank-greater, not-less, not-equal}
+use Rattle.codes.specs.Order.{TotalOrder}
+use Rattle.decimals.proofs.Faults.{no-fault}
+use Rattle.codes.proofs.Comparing.{then-flip, then-trans, both, rank-flip, rank-trans, rank-same, rank-less, rank-equal, rank-greater, not-less, not-equal}
 
 -- whether the text has twelve bytes, with colons where they belong
 abbrev pub dotted : List ℕ → Bool
@@ -84,12 +84,12 @@ at-good y d s h =
     cond-both (eqb y 0 && (eqb d 0 && eqb s 0)) (Ok Open) (cond (leb 1 d && (leb d (daysIn (fullYear y)) && leb s 86399)) (Ok (At (record { year = fullYear y; day = d; second = s }))) (Err WrongEpoch)) Good
     (λ _. tt)
     (λ _. cond-both (leb 1 d && (leb d (daysIn (fullYear y)) && leb s 86399)) (Ok (At (record { year = fullYear y; day = d; second = s }))) (Err WrongEpoch) Good
-        (λ t.
-            let p = and-parts (leb 1 d) (leb d (daysIn (fullYear y)) && leb s 86399) t in
-            let q = and-parts (leb d (daysIn (fullYear y))) (leb s 86399) (p .1) in
-            let r = year-range y h in
-            (r .0, r .1, leb-true 1 d (p .0), leb-true d (daysIn (fullYear y)) (q .0), leb-true s 86399 (q .1)))
-        (λ _. tt))
+    (λ t.
+    let p = and-parts (leb 1 d) (leb d (daysIn (fullYear y)) && leb s 86399) t in
+    let q = and-parts (leb d (daysIn (fullYear y))) (leb s 86399) (p .1) in
+    let r = year-range y h in
+    (r .0, r .1, leb-true 1 d (p .0), leb-true d (daysIn (fullYear y)) (q .0), leb-true s 86399 (q .1)))
+    (λ _. tt))
 
 of-good : (y d s : Option ℕ) → Below 100 y → Good (epochOf y d s)
 of-good (Some y) (Some d) (Some s) h = at-good y d s h
@@ -189,13 +189,15 @@ year-earlier a b v w h = record { order = ap (λ o. thenBy o (thenBy (rank (a .d
 
 day-earlier : (a b : Moment) → Dated a → Dated b → a .year ≡ b .year → a .day < b .day → Earlier a b
 day-earlier a b v w e h = record {
-    order = ap (λ o. thenBy o (thenBy (rank (a .day) (b .day)) (rank (a .second) (b .second)))) (rank-equal (a .year) (b .year) e) ∙ ap (λ o. thenBy o (rank (a .second) (b .second))) (rank-less (a .day) (b .day) h);
-    time = by-day a b v w e h }
+  order = ap (λ o. thenBy o (thenBy (rank (a .day) (b .day)) (rank (a .second) (b .second)))) (rank-equal (a .year) (b .year) e) ∙ ap (λ o. thenBy o (rank (a .second) (b .second))) (rank-less (a .day) (b .day) h);
+  time = by-day a b v w e h;
+}
 
 second-earlier : (a b : Moment) → a .year ≡ b .year → a .day ≡ b .day → a .second < b .second → Earlier a b
 second-earlier a b e f h = record {
-    order = ap (λ o. thenBy o (thenBy (rank (a .day) (b .day)) (rank (a .second) (b .second)))) (rank-equal (a .year) (b .year) e) ∙ (ap (λ o. thenBy o (rank (a .second) (b .second))) (rank-equal (a .day) (b .day) f) ∙ rank-less (a .second) (b .second) h);
-    time = by-second a b e f h }
+  order = ap (λ o. thenBy o (thenBy (rank (a .day) (b .day)) (rank (a .second) (b .second)))) (rank-equal (a .year) (b .year) e) ∙ (ap (λ o. thenBy o (rank (a .second) (b .second))) (rank-equal (a .day) (b .day) f) ∙ rank-less (a .second) (b .second) h);
+  time = by-second a b e f h;
+}
 
 earlier-order : (a b : Moment) → Earlier a b → momentOrder a b ≡ rank (instant a) (instant b)
 earlier-order a b w = w .order ∙ sym (rank-less (instant a) (instant b) (w .time))
@@ -210,11 +212,11 @@ pub order-of-time : OrderOfTime
 order-of-time a b v w =
     ⊎-elim
     (λ y. ⊎-elim
-        (λ d. ⊎-elim
-            (λ s. let e = same-moment a b y d s in ap (λ t. momentOrder t b) e ∙ (moment-equal b ∙ sym (rank-equal (instant a) (instant b) (ap instant e))))
-            (λ s. ⊎-elim (λ l. earlier-order a b (second-earlier a b y d l)) (λ g. later-order a b (second-earlier b a (sym y) (sym d) g)) s)
-            (cases-order (a .second) (b .second)))
-        (λ d. ⊎-elim (λ l. earlier-order a b (day-earlier a b v w y l)) (λ g. later-order a b (day-earlier b a w v (sym y) g)) d)
-        (cases-order (a .day) (b .day)))
+    (λ d. ⊎-elim
+    (λ s. let e = same-moment a b y d s in ap (λ t. momentOrder t b) e ∙ (moment-equal b ∙ sym (rank-equal (instant a) (instant b) (ap instant e))))
+    (λ s. ⊎-elim (λ l. earlier-order a b (second-earlier a b y d l)) (λ g. later-order a b (second-earlier b a (sym y) (sym d) g)) s)
+    (cases-order (a .second) (b .second)))
+    (λ d. ⊎-elim (λ l. earlier-order a b (day-earlier a b v w y l)) (λ g. later-order a b (day-earlier b a w v (sym y) g)) d)
+    (cases-order (a .day) (b .day)))
     (λ y. ⊎-elim (λ l. earlier-order a b (year-earlier a b v w l)) (λ g. later-order a b (year-earlier b a w v g)) y)
     (cases-order (a .year) (b .year))

@@ -72,12 +72,12 @@ heightText z = justified (below z) 5 (natAbs z / 10) ++ (46 ∷ fixed 1 (natAbs 
 -- what reading gives is within its range, and what is written of it is read as it was
 abbrev pub LongitudesComeBack : Type 0
 LongitudesComeBack = ((bs : List ℕ) (z : ℤ) → readLongitude bs ≡ Ok z → (pos 0 ≤ℤ z) × (z ≤ℤ pos 12959999))
-  × ((z : ℤ) → pos 0 ≤ℤ z → z ≤ℤ pos 12959999 → readLongitude (angleText z) ≡ Ok z)
+    × ((z : ℤ) → pos 0 ≤ℤ z → z ≤ℤ pos 12959999 → readLongitude (angleText z) ≡ Ok z)
 
 abbrev pub LatitudesComeBack : Type 0
 LatitudesComeBack = ((bs : List ℕ) (z : ℤ) → readLatitude bs ≡ Ok z → natAbs z ≤ 3240000)
-  × ((z : ℤ) → natAbs z ≤ 3240000 → readLatitude (angleText z) ≡ Ok z)
+    × ((z : ℤ) → natAbs z ≤ 3240000 → readLatitude (angleText z) ≡ Ok z)
 
 abbrev pub HeightsComeBack : Type 0
 HeightsComeBack = ((bs : List ℕ) (z : ℤ) → readHeight bs ≡ Ok z → (negsuc 99998 ≤ℤ z) × (z ≤ℤ pos 999999))
-  × ((z : ℤ) → negsuc 99998 ≤ℤ z → z ≤ℤ pos 999999 → readHeight (heightText z) ≡ Ok z)
+    × ((z : ℤ) → negsuc 99998 ≤ℤ z → z ≤ℤ pos 999999 → readHeight (heightText z) ≡ Ok z)

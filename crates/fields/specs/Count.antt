@@ -34,4 +34,4 @@ countText n = fixed 5 n
 -- what is read of five columns is below 100,000, and what is written of that is read as it was
 abbrev pub CountsComeBack : Type 0
 CountsComeBack = ((bs : List ℕ) (n : ℕ) → length bs ≤ 5 → readCount bs ≡ Ok n → n < 100000)
-  × ((n : ℕ) → n < 100000 → (readCount (indexText n) ≡ Ok n) × (readCount (countText n) ≡ Ok n))
+    × ((n : ℕ) → n < 100000 → (readCount (indexText n) ≡ Ok n) × (readCount (countText n) ≡ Ok n))

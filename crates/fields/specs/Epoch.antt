@@ -17,7 +17,7 @@ use Rattle.decimals.specs.Numeral.{numeral}
 use Rattle.decimals.specs.Write.{fixed}
 use Rattle.refusals.specs.declared.Fault.{Fault}
 use Rattle.refusals.specs.declared.Fault.the-variants.{WrongEpoch}
-use Rattle.fields.specs.Order.{TotalOrder}
+use Rattle.codes.specs.Order.{TotalOrder}
 use Rattle.fields.specs.declared.epochs.Epoch.{Epoch}
 use Rattle.fields.specs.declared.epochs.Epoch.the-variants.{Open, At}
 use Rattle.fields.specs.declared.epochs.Moment.{Moment}
@@ -33,7 +33,7 @@ daysIn year = cond (eqb (year % 4) 0) 366 365
 -- the epoch with two digits of a year, a day and a second
 abbrev pub epochAt : ℕ → ℕ → ℕ → Result Epoch Fault
 epochAt y d s = cond (eqb y 0 && (eqb d 0 && eqb s 0)) (Ok Open)
-  (cond (leb 1 d && (leb d (daysIn (fullYear y)) && leb s 86399)) (Ok (At (record { year = fullYear y; day = d; second = s }))) (Err WrongEpoch))
+    (cond (leb 1 d && (leb d (daysIn (fullYear y)) && leb s 86399)) (Ok (At (record { year = fullYear y; day = d; second = s }))) (Err WrongEpoch))
 
 abbrev pub epochOf : Option ℕ → Option ℕ → Option ℕ → Result Epoch Fault
 epochOf (Some y) (Some d) (Some s) = epochAt y d s
@@ -43,7 +43,7 @@ epochOf None d s = Err WrongEpoch
 
 abbrev pub readEpoch : List ℕ → Result Epoch Fault
 readEpoch bs = cond (eqb (length bs) 12 && (eqb (getD bs 2 0) 58 && eqb (getD bs 6 0) 58))
-  (epochOf (numeral (take 2 bs)) (numeral (take 3 (drop 3 bs))) (numeral (take 5 (drop 7 bs)))) (Err WrongEpoch)
+    (epochOf (numeral (take 2 bs)) (numeral (take 3 (drop 3 bs))) (numeral (take 5 (drop 7 bs)))) (Err WrongEpoch)
 
 -- an epoch that is not open
 abbrev pub momentOf : Result Epoch Fault → Result Moment Fault
@@ -86,11 +86,11 @@ DatedEpoch (At m) = Dated m
 -- what reading gives the calendar has, and what is written of it is read as that same epoch
 abbrev pub EpochsComeBack : Type 0
 EpochsComeBack = ((bs : List ℕ) (e : Epoch) → readEpoch bs ≡ Ok e → DatedEpoch e)
-  × ((e : Epoch) → DatedEpoch e → readEpoch (epochText e) ≡ Ok e)
+    × ((e : Epoch) → DatedEpoch e → readEpoch (epochText e) ≡ Ok e)
 
 abbrev pub MomentsComeBack : Type 0
 MomentsComeBack = ((bs : List ℕ) (m : Moment) → readMoment bs ≡ Ok m → Dated m)
-  × ((m : Moment) → Dated m → readMoment (momentText m) ≡ Ok m)
+    × ((m : Moment) → Dated m → readMoment (momentText m) ≡ Ok m)
 
 -- the days of the first n years from 1951 on
 abbrev pub daysOf : ℕ → ℕ

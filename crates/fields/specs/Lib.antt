@@ -1,7 +1,5 @@
-pub mod Text
-pub mod Order
 pub mod Epoch
 pub mod Count
 pub mod Angle
-pub mod Codes
-pub mod ParameterTypes
+pub mod Widths
+pub mod Examples

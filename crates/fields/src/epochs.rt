@@ -2,9 +2,9 @@
 ghost use mathlib.Core.Path.{_≡_};
 ghost use Prim.Native.Nat.{_≤_, _<_, _^_};
 ghost use lib.ListN.{length};
-ghost use Rattle.std.specs.Keys.{rank};
-ghost use Rattle.std.specs.Orderings.{thenBy};
 ghost use Rattle.fields.specs.Epoch.{epochAt, readEpoch, readMoment, stamp, epochText, momentText, momentOrder, epochOrder};
+use codes::orders::compare_numbers;
+use codes::orders::then_by;
 use decimals::numerals::read_numeral;
 use decimals::writes::put_digits;
 use refusals::Fault;
@@ -38,7 +38,11 @@ fn epoch_at(y: u32, d: u32, s: u32) -> Result<Epoch, Fault>
     if d < 1 || d > days || s > 86399 {
         return Err(Fault::WrongEpoch);
     }
-    Ok(Epoch::At(Moment { year: year as u16, day: d as u16, second: s }))
+    Ok(Epoch::At(Moment {
+        year: year as u16,
+        day: d as u16,
+        second: s,
+    }))
 }
 
 pub fn read_epoch(text: &[u8]) -> Result<Epoch, Fault>
@@ -53,7 +57,11 @@ pub fn read_epoch(text: &[u8]) -> Result<Epoch, Fault>
     if text[6] != b':' {
         return Err(Fault::WrongEpoch);
     }
-    match (read_numeral(&text[0..2]), read_numeral(&text[3..6]), read_numeral(&text[7..12])) {
+    match (
+        read_numeral(&text[0..2]),
+        read_numeral(&text[3..6]),
+        read_numeral(&text[7..12]),
+    ) {
         (Some(y), Some(d), Some(s)) => epoch_at(y, d, s),
         _ => Err(Fault::WrongEpoch),
     }
@@ -95,35 +103,13 @@ pub fn write_epoch(e: &Epoch) -> [u8; 12]
     }
 }
 
-fn compare_numbers(a: u32, b: u32) -> Ordering
-    ensures { λ o. ⌜ o ≡ rank a b ⌝ }
-{
-    if a < b {
-        Ordering::Less
-    } else if a == b {
-        Ordering::Equal
-    } else {
-        Ordering::Greater
-    }
-}
-
-// The first answer, or the second where the first is of equals.
-pub fn next(first: Ordering, second: Ordering) -> Ordering
-    ensures { λ o. ⌜ o ≡ thenBy first second ⌝ }
-{
-    match first {
-        Ordering::Equal => second,
-        other => other,
-    }
-}
-
 pub fn compare_moments(a: &Moment, b: &Moment) -> Ordering
     ensures { λ o. ⌜ o ≡ momentOrder (now (a .entry)) (now (b .entry)) ⌝ }
 {
     let year = compare_numbers(a.year as u32, b.year as u32);
     let day = compare_numbers(a.day as u32, b.day as u32);
     let second = compare_numbers(a.second, b.second);
-    next(year, next(day, second))
+    then_by(year, then_by(day, second))
 }
 
 // Open comes first, then the order of time.

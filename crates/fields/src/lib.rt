@@ -1,7 +1,5 @@
-// The fields of a line: texts, codes, counts, epochs, angles, heights and parameter types, read and written.
+// The fields of a line that are made of numbers: counts, epochs, angles and heights, read and written.
 pub mod angles;
-pub mod codes;
 pub mod counts;
 pub mod epochs;
-pub mod texts;
-pub mod types;
+pub mod laws;

@@ -31,10 +31,11 @@ returns-then-all-size-ne0 c =
     let e : topCode (c .args .power) n ≡ topOf s = top-is (c .args .power) n (c .pre .2 .0) (c .pre .2 .1) (omega arith) ∙ ap (λ k. (c .args .power +ℤ pos k) -ℤ pos 1) (c .size-of-size .ensures .count) in
     let u = c .size-of-size .ensures .unit in
     let f : fitted (c .args .negative) (c .args .value * c .args .unit) (10 ^ size (c .args .value)) (topOf s) ≡ Err NumberOutOfRange =
-        elim (c .then-all-size-ne0 .came) [
-            then-all-size-ne0·by·then-all-size-ne0 w ↦ fitted-part (c .args .negative) (c .args .value * c .args .unit) (10 ^ size (c .args .value)) (topOf s) (subst (λ b. (c .args .value * c .args .unit) % b ≡ 0 → ⊥) u (w .if-all-size-ne0 .taken))
-          | then-all-size-ne0·by·else-all-size-ne0·then-exponent-ltminus99 w ↦ fitted-low (c .args .negative) (c .args .value * c .args .unit) (10 ^ size (c .args .value)) (topOf s) (subst (λ q. ltZ q (negsuc 98) ≡ true) e (w .if-exponent-ltminus99 .taken))
-          | then-all-size-ne0·by·else-all-size-ne0·else-exponent-ltminus99·then-exponent-gt99 w ↦ fitted-high (c .args .negative) (c .args .value * c .args .unit) (10 ^ size (c .args .value)) (topOf s) (subst (λ q. ltZ (pos 99) q ≡ true) e (w .if-exponent-gt99 .taken)) ] in
+    elim (c .then-all-size-ne0 .came) [
+      | then-all-size-ne0·by·then-all-size-ne0 w ↦ fitted-part (c .args .negative) (c .args .value * c .args .unit) (10 ^ size (c .args .value)) (topOf s) (subst (λ b. (c .args .value * c .args .unit) % b ≡ 0 → ⊥) u (w .if-all-size-ne0 .taken))
+      | then-all-size-ne0·by·else-all-size-ne0·then-exponent-ltminus99 w ↦ fitted-low (c .args .negative) (c .args .value * c .args .unit) (10 ^ size (c .args .value)) (topOf s) (subst (λ q. ltZ q (negsuc 98) ≡ true) e (w .if-exponent-ltminus99 .taken))
+      | then-all-size-ne0·by·else-all-size-ne0·else-exponent-ltminus99·then-exponent-gt99 w ↦ fitted-high (c .args .negative) (c .args .value * c .args .unit) (10 ^ size (c .args .value)) (topOf s) (subst (λ q. ltZ (pos 99) q ≡ true) e (w .if-exponent-gt99 .taken))
+    ] in
     sym (scaled-fits (c .args .unit) s (c .if-value-eq0 .left) ∙ f)
 
 pub cast-mantissa : need.cast-mantissa

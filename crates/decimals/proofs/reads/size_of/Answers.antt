@@ -13,16 +13,18 @@ pub loop-unit-less : need.loop-unit-less
 loop-unit-less c = omega (arith, size-ge (c .args .value) (c .loop-unit .count) (omega arith))
 
 pub loop-unit-again : need.loop-unit-again
-loop-unit-again c =
-    ( ap (λ n. n * 10) (c .loop-unit .inv .0) ∙ sym (ten-more (c .loop-unit .count))
-    , size-ge (c .args .value) (c .loop-unit .count) (omega arith))
+loop-unit-again c = (
+  ap (λ n. n * 10) (c .loop-unit .inv .0) ∙ sym (ten-more (c .loop-unit .count)),
+  size-ge (c .args .value) (c .loop-unit .count) (omega arith),
+)
 
 pub returns : need.returns
 returns c =
     let l = size-le (c .args .value) (c .loop-unit .count) (omega arith) in
     let e : c .loop-unit .count ≡ size (c .args .value) = omega arith in
     record {
-        count = e;
-        unit = c .loop-unit .inv .0 ∙ ap (λ k. 10 ^ k) e;
-        small = omega (arith, size-le (c .args .value) 21 (c .pre));
-        above = omega arith }
+      count = e;
+      unit = c .loop-unit .inv .0 ∙ ap (λ k. 10 ^ k) e;
+      small = omega (arith, size-le (c .args .value) 21 (c .pre));
+      above = omega arith;
+    }

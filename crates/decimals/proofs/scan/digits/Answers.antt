@@ -24,12 +24,13 @@ loop-i-again c =
     let i = c .loop-i .i in
     let v = c .loop-i .value in
     let h : i < length xs = omega arith in
-    let y : isDigit (getD xs i 0) ≡ true = digit-yes (getD xs i 0) (omega arith) (omega arith) in
-    ( omega arith
-    , sym (digitsFrom-yes v xs i h y) ∙ c .loop-i .inv .1
-    , omega (arith, count-yes xs i h y)
-    , sym (past-yes xs i h y) ∙ c .loop-i .inv .3
-    , le-trans (digit-more v (getD xs i 0 - 48) (length xs) i h (omega arith)) (c .loop-i .inv .4))
+    let y : isDigit (getD xs i 0) ≡ true = digit-yes (getD xs i 0) (omega arith) (omega arith) in (
+      omega arith,
+      sym (digitsFrom-yes v xs i h y) ∙ c .loop-i .inv .1,
+      omega (arith, count-yes xs i h y),
+      sym (past-yes xs i h y) ∙ c .loop-i .inv .3,
+      le-trans (digit-more v (getD xs i 0 - 48) (length xs) i h (omega arith)) (c .loop-i .inv .4),
+    )
 
 pub returns : need.returns
 returns c =
@@ -37,15 +38,17 @@ returns c =
     let i = c .loop-i .i in
     let v = c .loop-i .value in
     let w : (length xs ≤ i) ⊎ ((i < length xs) × (isDigit (getD xs i 0) ≡ false)) =
-        elim (c .loop-i-test .came) [
-            then-loop-i-test·then-s-i-ge48·else-s-i-le57 w ↦ inr (omega arith, digit-high (getD xs i 0) (omega arith))
-          | then-loop-i-test·else-s-i-ge48 w ↦ inr (omega arith, digit-low (getD xs i 0) (omega arith))
-          | else-loop-i-test w ↦ inl (omega arith) ] in
+    elim (c .loop-i-test .came) [
+      | then-loop-i-test·then-s-i-ge48·else-s-i-le57 w ↦ inr (omega arith, digit-high (getD xs i 0) (omega arith))
+      | then-loop-i-test·else-s-i-ge48 w ↦ inr (omega arith, digit-low (getD xs i 0) (omega arith))
+      | else-loop-i-test w ↦ inl (omega arith)
+    ] in
     let st = stopped xs i v w in
     let len : length (take (length xs - i) (drop i xs)) ≡ length xs - i = ap length (take-rest xs i) ∙ length-drop i xs in
     record {
-        value = sym (st .0) ∙ c .loop-i .inv .1;
-        count = omega (arith, st .1);
-        rest = take-rest xs i ∙ (sym (st .2) ∙ c .loop-i .inv .3);
-        bound = rw len (c .loop-i .inv .4);
-        size = omega (arith, len) }
+      value = sym (st .0) ∙ c .loop-i .inv .1;
+      count = omega (arith, st .1);
+      rest = take-rest xs i ∙ (sym (st .2) ∙ c .loop-i .inv .3);
+      bound = rw len (c .loop-i .inv .4);
+      size = omega (arith, len);
+    }

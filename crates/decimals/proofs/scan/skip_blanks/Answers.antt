@@ -16,9 +16,11 @@ returns c =
     let xs = c .args .s .now in
     let i = c .loop-i .i in
     let stop : drop i xs ≡ unblank (drop i xs) =
-        elim (c .loop-i-test .came) [
-            then-loop-i-test·else-s-i-eq32 w ↦ sym (unblank-no xs i (omega arith) (w .if-s-i-eq32 .left))
-          | else-loop-i-test w ↦ at-drop-all (λ x. x) xs i (omega arith) ∙ sym (at-drop-all unblank xs i (omega arith)) ] in
+    elim (c .loop-i-test .came) [
+      | then-loop-i-test·else-s-i-eq32 w ↦ sym (unblank-no xs i (omega arith) (w .if-s-i-eq32 .left))
+      | else-loop-i-test w ↦ at-drop-all (λ x. x) xs i (omega arith) ∙ sym (at-drop-all unblank xs i (omega arith))
+    ] in
     record {
-        rest = take-rest xs i ∙ (stop ∙ c .loop-i .inv .1);
-        short = rw take-rest (rw length-drop (omega arith)) }
+      rest = take-rest xs i ∙ (stop ∙ c .loop-i .inv .1);
+      short = rw take-rest (rw length-drop (omega arith));
+    }

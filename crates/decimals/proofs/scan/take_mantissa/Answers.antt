@@ -35,13 +35,14 @@ returns-then-tail-eq46 c =
     let n : length (tail u) ≡ length u - 1 = ap length (take-rest u 1) ∙ length-drop 1 u in
     let p = sym e ∙ point-yes (c .digits-whole .result .value) (c .digits-whole .result .count) u (omega arith) (omega arith) in
     record {
-        value = c .digits-part .ensures .value ∙ sym (ap (λ d. d .value) p);
-        count = ap (λ n. c .digits-whole .result .count + n) (c .digits-part .ensures .count) ∙ sym (ap (λ d. d .count) p);
-        places = c .digits-part .ensures .count ∙ sym (ap (λ d. d .places) p);
-        rest = c .digits-part .ensures .rest ∙ sym (ap (λ d. d .rest) p);
-        small = two-bounds (c .digits-part .result .value) (length (c .digits-part .result .rest .now)) (le-trans (c .digits-part .ensures .bound) (le-trans (mul-le-mul-left (c .digits-whole .result .value + 1) (ten-mono (length (tail u)) (length u) (omega arith))) (le-trans (c .digits-whole .ensures .bound) (omega (arith, ten-mono (length (c .args .s .now)) 21 (c .pre))))));
-        tight = tight-bound (c .digits-part .result .value) (length (c .digits-part .result .rest .now)) (length (c .args .s .now)) (le-trans (c .digits-part .ensures .bound) (le-trans (mul-le-mul-left (c .digits-whole .result .value + 1) (ten-mono (length (tail u)) (length u) (omega arith))) (c .digits-whole .ensures .bound)));
-        short = omega arith }
+      value = c .digits-part .ensures .value ∙ sym (ap (λ d. d .value) p);
+      count = ap (λ n. c .digits-whole .result .count + n) (c .digits-part .ensures .count) ∙ sym (ap (λ d. d .count) p);
+      places = c .digits-part .ensures .count ∙ sym (ap (λ d. d .places) p);
+      rest = c .digits-part .ensures .rest ∙ sym (ap (λ d. d .rest) p);
+      small = two-bounds (c .digits-part .result .value) (length (c .digits-part .result .rest .now)) (le-trans (c .digits-part .ensures .bound) (le-trans (mul-le-mul-left (c .digits-whole .result .value + 1) (ten-mono (length (tail u)) (length u) (omega arith))) (le-trans (c .digits-whole .ensures .bound) (omega (arith, ten-mono (length (c .args .s .now)) 21 (c .pre))))));
+      tight = tight-bound (c .digits-part .result .value) (length (c .digits-part .result .rest .now)) (length (c .args .s .now)) (le-trans (c .digits-part .ensures .bound) (le-trans (mul-le-mul-left (c .digits-whole .result .value + 1) (ten-mono (length (tail u)) (length u) (omega arith))) (c .digits-whole .ensures .bound)));
+      short = omega arith;
+    }
 
 pub returns-else-tail-gt0 : need.returns-else-tail-gt0
 returns-else-tail-gt0 c =
@@ -50,10 +51,11 @@ returns-else-tail-gt0 c =
     let f : 0 < length u → getD u 0 0 ≡ 46 → ⊥ = elim (c .else-tail-gt0 .came) [ else-tail-gt0·by·then-tail-gt0·else-tail-eq46 w ↦ λ a b. w .if-tail-eq46 .left b | else-tail-gt0·by·else-tail-gt0 w ↦ λ a b. omega arith ] in
     let p = sym e ∙ point-no (c .digits-whole .result .value) (c .digits-whole .result .count) u f in
     record {
-        value = sym (ap (λ d. d .value) p);
-        count = sym (ap (λ d. d .count) p);
-        places = sym (ap (λ d. d .places) p);
-        rest = sym (ap (λ d. d .rest) p);
-        small = two-bounds (c .digits-whole .result .value) (length u) (le-trans (c .digits-whole .ensures .bound) (omega (arith, ten-mono (length (c .args .s .now)) 21 (c .pre))));
-        tight = tight-bound (c .digits-whole .result .value) (length u) (length (c .args .s .now)) (c .digits-whole .ensures .bound);
-        short = omega arith }
+      value = sym (ap (λ d. d .value) p);
+      count = sym (ap (λ d. d .count) p);
+      places = sym (ap (λ d. d .places) p);
+      rest = sym (ap (λ d. d .rest) p);
+      small = two-bounds (c .digits-whole .result .value) (length u) (le-trans (c .digits-whole .ensures .bound) (omega (arith, ten-mono (length (c .args .s .now)) 21 (c .pre))));
+      tight = tight-bound (c .digits-whole .result .value) (length u) (length (c .args .s .now)) (c .digits-whole .ensures .bound);
+      short = omega arith;
+    }

@@ -25,7 +25,8 @@ returns c =
     let xs = c .args .out .now in
     let i = c .loop-i .i in
     let w : (length xs ≤ i + 1) ⊎ ((i + 1 < length xs) × (getD xs (i + 1) 0 ≡ 32 → ⊥)) =
-        elim (c .loop-i-test .came) [
-            then-loop-i-test·else-out-i-eq32 w ↦ inr (omega arith, w .if-out-i-eq32 .left)
-          | else-loop-i-test w ↦ inl (omega arith) ] in
+    elim (c .loop-i-test .came) [
+      | then-loop-i-test·else-out-i-eq32 w ↦ inr (omega arith, w .if-out-i-eq32 .left)
+      | else-loop-i-test w ↦ inl (omega arith)
+    ] in
     marked-stop xs i (c .loop-i .inv .0) w ∙ c .loop-i .inv .1

@@ -13,7 +13,8 @@ loop-i-holds c =
     (omega arith, fixed-none (c .args .out .now) (c .args .m), sym (div-one (c .args .m)) ∙ ap (λ k. c .args .m / 10 ^ k) z)
 
 pub loop-i-again : need.loop-i-again
-loop-i-again c =
-    ( omega arith
-    , fixed-more (c .loop-i .out) (length (c .args .out .now)) (c .loop-i .i) (c .args .m) (c .loop-i .rest) (c .loop-i .kept .out) (omega arith) (omega arith) (c .loop-i .inv .1) (c .loop-i .inv .2)
-    , quotient-more (length (c .args .out .now)) (c .loop-i .i) (c .args .m) (c .loop-i .rest) (omega arith) (omega arith) (c .loop-i .inv .2))
+loop-i-again c = (
+  omega arith,
+  fixed-more (c .loop-i .out) (length (c .args .out .now)) (c .loop-i .i) (c .args .m) (c .loop-i .rest) (c .loop-i .kept .out) (omega arith) (omega arith) (c .loop-i .inv .1) (c .loop-i .inv .2),
+  quotient-more (length (c .args .out .now)) (c .loop-i .i) (c .args .m) (c .loop-i .rest) (omega arith) (omega arith) (c .loop-i .inv .2),
+)

@@ -1,0 +1,4 @@
+pub mod Order
+pub mod Text
+pub mod Codes
+pub mod ParameterTypes

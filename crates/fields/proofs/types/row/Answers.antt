@@ -1,7 +1,0 @@
-use Rattle.std.proofs.shelf.Lists.{getD-default}
-use Rattle.fields.specs.ParameterTypes.{types, noType}
-use Rattle.fields.proofs.types.row.Needs as need
-
-pub returns : need.returns
-unfolding types
-returns c = getD-default types (c .args .i) _ noType (c .pre)
