@@ -1,0 +1,3 @@
+// The records of a solution: their keys, and their lines.
+pub mod keys;
+pub mod sites;
