@@ -1,3 +1,6 @@
 pub mod Lines
 pub mod Keys
+pub mod Headers
 pub mod Sites
+pub mod Spans
+pub mod Parameters

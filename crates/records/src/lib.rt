@@ -1,3 +1,6 @@
 // The records of a solution: their keys, and their lines.
+pub mod headers;
 pub mod keys;
+pub mod parameters;
 pub mod sites;
+pub mod spans;
