@@ -4,3 +4,5 @@ pub mod Headers
 pub mod Sites
 pub mod Spans
 pub mod Parameters
+pub mod Laws
+pub mod Valid
