@@ -1,2 +1,4 @@
 pub mod KeyOrders
 pub mod Validity
+pub mod Parts
+pub mod ComeBack

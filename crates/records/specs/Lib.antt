@@ -4,5 +4,6 @@ pub mod Headers
 pub mod Sites
 pub mod Spans
 pub mod Parameters
+pub mod Copies
 pub mod Laws
 pub mod Valid

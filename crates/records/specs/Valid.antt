@@ -14,6 +14,7 @@ use Rattle.codes.specs.Text.{readText, readDescription}
 use Rattle.codes.specs.declared.types.ParameterType.{ParameterType}
 use Rattle.decimals.specs.Write.{Canonical, CanonicalDeviation}
 use Rattle.fields.specs.Epoch.{Dated, DatedEpoch}
+use Rattle.records.specs.Copies.{siteText, spanText, parameterText}
 use Rattle.records.specs.Headers.{readHeader, readEditedHeader}
 use Rattle.records.specs.Parameters.{readParameter, readIndexed}
 use Rattle.records.specs.Sites.{readSite}
@@ -106,3 +107,13 @@ ParametersAreValid = (line : List ℕ) → Printable line → Gives ValidParamet
 
 abbrev pub HeadersAreValid : Type 0
 HeadersAreValid = (line : List ℕ) → Printable line → Gives (λ h. ValidHeader (h .0)) (readHeader line) × Gives ValidHeader (readEditedHeader line)
+
+-- what is written of a valid record is read as it was
+abbrev pub SitesComeBack : Type 0
+SitesComeBack = (s : Site) → ValidSite s → readSite (siteText s) ≡ Ok s
+
+abbrev pub SpansComeBack : Type 0
+SpansComeBack = (s : Span) → ValidSpan s → readSpan (spanText s) ≡ Ok s
+
+abbrev pub ParametersComeBack : Type 0
+ParametersComeBack = (n : ℕ) (p : Parameter) → ValidParameter p → (readParameter (parameterText n p) ≡ Ok p) × (n < 100000 → readIndexed (parameterText n p) ≡ Ok (n, p))

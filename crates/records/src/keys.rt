@@ -3,6 +3,7 @@ ghost use mathlib.Core.Path.{_≡_};
 ghost use Prim.Native.Nat.{_≤_};
 ghost use lib.ListN.{length};
 ghost use Rattle.records.specs.Keys.{siteKeyOrder, solutionKeyOrder, readSiteKey, readSolutionKey, pickSiteKey, pickSolutionKey, blankSiteKey, blankSolutionKey};
+ghost use Rattle.records.specs.Copies.{siteKeyText, solutionKeyText};
 use codes::orders::then_by;
 use codes::texts::check_blank;
 use codes::texts::compare_text;
@@ -104,4 +105,24 @@ pub(crate) fn pick_solution_columns(columns: &[u8]) -> Result<SolutionKey, Fault
     let site = pick_site_columns(&columns[0..7])?;
     let solution = read_text(&columns[8..12])?;
     Ok(SolutionKey { site, solution })
+}
+
+// A site's seven columns.
+pub(crate) fn write_site_columns(k: &SiteKey) -> [u8; 7]
+    ensures { λ r. ⌜ r ≡ siteKeyText (now (k .entry)) ⌝ }
+{
+    let mut out = [b' '; 7];
+    out[5..7].copy_from_slice(&k.point);
+    out[0..4].copy_from_slice(&k.code);
+    out
+}
+
+// A solution's twelve columns.
+pub(crate) fn write_solution_columns(k: &SolutionKey) -> [u8; 12]
+    ensures { λ r. ⌜ r ≡ solutionKeyText (now (k .entry)) ⌝ }
+{
+    let mut out = [b' '; 12];
+    out[8..12].copy_from_slice(&k.solution);
+    out[0..7].copy_from_slice(&write_site_columns(&k.site));
+    out
 }

@@ -2,10 +2,12 @@
 ghost use mathlib.Core.Path.{_≡_};
 ghost use lib.ListN.{length};
 ghost use Rattle.records.specs.Parameters.{typeOf, readParameterKey, readMeasure, readParameter, readIndex, readIndexed, parameterNamed, parameterKeyOrder, parameterOrder, blankParameter};
+ghost use Rattle.records.specs.Copies.{parameterKeyText, measureText, unitOf, parameterText};
 use crate::keys::SolutionKey;
 use crate::keys::compare_solution_keys;
 use crate::keys::pick_solution_columns;
 use crate::keys::read_solution_columns;
+use crate::keys::write_solution_columns;
 use codes::letters::Constraint;
 use codes::letters::read_constraint;
 use codes::orders::then_by;
@@ -19,10 +21,14 @@ use decimals::number::Deviation;
 use decimals::number::Number;
 use decimals::reads::read_deviation;
 use decimals::reads::read_number;
+use decimals::writes::write_deviation;
+use decimals::writes::write_number;
 use fields::counts::read_count;
+use fields::counts::write_index;
 use fields::epochs::Epoch;
 use fields::epochs::compare_epochs;
 use fields::epochs::read_epoch;
+use fields::epochs::write_epoch;
 use refusals::Fault;
 use std::cmp::Ordering;
 use tables::table::Record;
@@ -165,4 +171,46 @@ pub fn read_parameter_key(line: &[u8; 80]) -> Result<Parameter, Fault>
     let mut parameter = ParameterRecord::blank();
     parameter.key = ParameterKey { at, name, epoch };
     Ok(parameter)
+}
+
+fn write_parameter_columns(k: &ParameterKey) -> [u8; 33]
+    ensures { λ r. ⌜ r ≡ parameterKeyText (now (k .entry)) ⌝ }
+{
+    let mut out = [b' '; 33];
+    out[21..33].copy_from_slice(&write_epoch(&k.epoch));
+    out[8..20].copy_from_slice(&write_solution_columns(&k.at));
+    out[1..7].copy_from_slice(&k.name);
+    out
+}
+
+fn write_measure(p: &Parameter) -> [u8; 35]
+    ensures { λ r. ⌜ r ≡ measureText (now (p .entry)) ⌝ }
+{
+    let mut out = [b' '; 35];
+    out[24..35].copy_from_slice(&write_deviation(&p.deviation));
+    out[2..23].copy_from_slice(&write_number(&p.value));
+    out[0] = p.constraint.digit();
+    out
+}
+
+// The unit of a type of the table; blank for another name.
+fn unit_of(name: &[u8]) -> [u8; 4]
+    ensures { λ r. ⌜ r ≡ unitOf (now (name .entry)) ⌝ }
+{
+    match find_type(name) {
+        Some(t) => t.unit,
+        None => [b' '; 4],
+    }
+}
+
+// The 80 columns of a parameter's data line in a fair copy.
+pub fn write_parameter(index: u32, p: &Parameter) -> [u8; 80]
+    ensures { λ r. ⌜ r ≡ parameterText index (now (p .entry)) ⌝ }
+{
+    let mut out = [b' '; 80];
+    out[45..80].copy_from_slice(&write_measure(p));
+    out[40..44].copy_from_slice(&unit_of(&p.key.name));
+    out[6..39].copy_from_slice(&write_parameter_columns(&p.key));
+    out[1..6].copy_from_slice(&write_index(index));
+    out
 }

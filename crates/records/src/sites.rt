@@ -2,10 +2,12 @@
 ghost use mathlib.Core.Path.{_≡_};
 ghost use lib.ListN.{length};
 ghost use Rattle.records.specs.Sites.{readPosition, readSite, siteNamed, blankSite, siteOrder};
+ghost use Rattle.records.specs.Copies.{positionText, siteText};
 use crate::keys::SiteKey;
 use crate::keys::compare_site_keys;
 use crate::keys::pick_site_columns;
 use crate::keys::read_site_columns;
+use crate::keys::write_site_columns;
 use codes::letters::Technique;
 use codes::letters::read_technique;
 use codes::texts::check_blank;
@@ -14,6 +16,8 @@ use codes::texts::read_text;
 use fields::angles::read_height;
 use fields::angles::read_latitude;
 use fields::angles::read_longitude;
+use fields::angles::write_angle;
+use fields::angles::write_height;
 use refusals::Fault;
 use std::cmp::Ordering;
 use tables::table::Record;
@@ -98,4 +102,28 @@ pub fn read_site_key(line: &[u8; 80]) -> Result<Site, Fault>
     let mut site = SiteRecord::blank();
     site.key = pick_site_columns(&line[1..8])?;
     Ok(site)
+}
+
+// A longitude, a latitude and a height, in 36 columns.
+fn write_position(longitude: i32, latitude: i32, height: i32) -> [u8; 36]
+    ensures { λ r. ⌜ r ≡ positionText longitude latitude height ⌝ }
+{
+    let mut out = [b' '; 36];
+    out[24..31].copy_from_slice(&write_height(height));
+    out[12..23].copy_from_slice(&write_angle(latitude));
+    out[0..11].copy_from_slice(&write_angle(longitude));
+    out
+}
+
+// The 80 columns of a site's data line in a fair copy.
+pub fn write_site(s: &Site) -> [u8; 80]
+    ensures { λ r. ⌜ r ≡ siteText (now (s .entry)) ⌝ }
+{
+    let mut out = [b' '; 80];
+    out[44..80].copy_from_slice(&write_position(s.longitude, s.latitude, s.height));
+    out[21..43].copy_from_slice(&s.description);
+    out[19] = s.technique.letter();
+    out[9..18].copy_from_slice(&s.monument);
+    out[1..8].copy_from_slice(&write_site_columns(&s.key));
+    out
 }

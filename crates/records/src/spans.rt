@@ -2,10 +2,12 @@
 ghost use mathlib.Core.Path.{_≡_};
 ghost use lib.ListN.{length};
 ghost use Rattle.records.specs.Spans.{readSpan, readSpanKey, readEpochs, spanNamed, spanKeyOrder, spanOrder, blankSpan};
+ghost use Rattle.records.specs.Copies.{spanKeyText, epochsText, spanText};
 use crate::keys::SolutionKey;
 use crate::keys::compare_solution_keys;
 use crate::keys::pick_solution_columns;
 use crate::keys::read_solution_columns;
+use crate::keys::write_solution_columns;
 use codes::letters::Technique;
 use codes::letters::read_technique;
 use codes::orders::compare_numbers;
@@ -13,6 +15,7 @@ use codes::orders::then_by;
 use codes::texts::check_blank;
 use fields::epochs::Epoch;
 use fields::epochs::read_epoch;
+use fields::epochs::write_epoch;
 use refusals::Fault;
 use std::cmp::Ordering;
 use tables::table::Record;
@@ -113,4 +116,33 @@ pub fn read_span_key(line: &[u8; 80]) -> Result<Span, Fault>
     let mut span = SpanRecord::blank();
     span.key = SpanKey { at, technique };
     Ok(span)
+}
+
+fn write_span_columns(k: &SpanKey) -> [u8; 14]
+    ensures { λ r. ⌜ r ≡ spanKeyText (now (k .entry)) ⌝ }
+{
+    let mut out = [b' '; 14];
+    out[13] = k.technique.letter();
+    out[0..12].copy_from_slice(&write_solution_columns(&k.at));
+    out
+}
+
+fn write_epochs(s: &Span) -> [u8; 65]
+    ensures { λ r. ⌜ r ≡ epochsText (now (s .entry)) ⌝ }
+{
+    let mut out = [b' '; 65];
+    out[27..39].copy_from_slice(&write_epoch(&s.mean));
+    out[14..26].copy_from_slice(&write_epoch(&s.end));
+    out[1..13].copy_from_slice(&write_epoch(&s.start));
+    out
+}
+
+// The 80 columns of a span's data line in a fair copy.
+pub fn write_span(s: &Span) -> [u8; 80]
+    ensures { λ r. ⌜ r ≡ spanText (now (s .entry)) ⌝ }
+{
+    let mut out = [b' '; 80];
+    out[15..80].copy_from_slice(&write_epochs(s));
+    out[1..15].copy_from_slice(&write_span_columns(&s.key));
+    out
 }
