@@ -8,18 +8,21 @@ use lib.Seq.{take-append-seam}
 use Rattle.std.specs.declared.result.Result.{Result}
 use Rattle.std.specs.declared.result.Result.the-variants.{Ok, Err}
 use Rattle.refusals.specs.declared.Fault.{Fault}
-use Rattle.records.specs.Copies.{joined, blanks}
+use Rattle.records.specs.Copies.{joined}
 use Rattle.records.specs.Lines.{andThen}
 
-pub same-measure : {d e : ℕ} {x y v w : List ℕ} → d ≡ e → x ≡ y → v ≡ w → joined ((d ∷ []) ∷ blanks 1 ∷ x ∷ blanks 1 ∷ v ∷ []) ≡ joined ((e ∷ []) ∷ blanks 1 ∷ y ∷ blanks 1 ∷ w ∷ [])
-same-measure {d} {e} {x} {y} {v} {w} p q r = ap (λ t. joined ((t ∷ []) ∷ blanks 1 ∷ x ∷ blanks 1 ∷ v ∷ [])) p ∙ ap (λ t. joined ((e ∷ []) ∷ blanks 1 ∷ t ∷ blanks 1 ∷ v ∷ [])) q
-    ∙ ap (λ t. joined ((e ∷ []) ∷ blanks 1 ∷ y ∷ blanks 1 ∷ t ∷ [])) r
+-- the same parts one by one
+abbrev pub Alike : List (List ℕ) → List (List ℕ) → Type 0
+Alike [] [] = Unit {0}
+Alike [] (q ∷ qs) = ⊥
+Alike (p ∷ ps) [] = ⊥
+Alike (p ∷ ps) (q ∷ qs) = (p ≡ q) × Alike ps qs
 
-pub same-parameter : {i i′ k k′ u u′ m m′ : List ℕ} → i ≡ i′ → k ≡ k′ → u ≡ u′ → m ≡ m′
-    → joined (blanks 1 ∷ i ∷ k ∷ blanks 1 ∷ u ∷ blanks 1 ∷ m ∷ []) ≡ joined (blanks 1 ∷ i′ ∷ k′ ∷ blanks 1 ∷ u′ ∷ blanks 1 ∷ m′ ∷ [])
-same-parameter {i} {i′} {k} {k′} {u} {u′} {m} {m′} p q r s =
-    ap (λ t. joined (blanks 1 ∷ t ∷ k ∷ blanks 1 ∷ u ∷ blanks 1 ∷ m ∷ [])) p ∙ ap (λ t. joined (blanks 1 ∷ i′ ∷ t ∷ blanks 1 ∷ u ∷ blanks 1 ∷ m ∷ [])) q
-    ∙ ap (λ t. joined (blanks 1 ∷ i′ ∷ k′ ∷ blanks 1 ∷ t ∷ blanks 1 ∷ m ∷ [])) r ∙ ap (λ t. joined (blanks 1 ∷ i′ ∷ k′ ∷ blanks 1 ∷ u′ ∷ blanks 1 ∷ t ∷ [])) s
+pub same-joined : (ps qs : List (List ℕ)) → Alike ps qs → joined ps ≡ joined qs
+same-joined [] [] f = refl
+same-joined [] (q ∷ qs) f = absurd f
+same-joined (p ∷ ps) [] f = absurd f
+same-joined (p ∷ ps) (q ∷ qs) f = ap (λ t. t ++ joined ps) (f .0) ∙ ap (λ t. q ++ t) (same-joined ps qs (f .1))
 
 -- a step of a line whose first field is read
 pub then-step : {A B : Type 0} (r : Result A Fault) (a : A) (f : A → Result B Fault) {b : Result B Fault} → r ≡ Ok a → f a ≡ b → andThen r f ≡ b

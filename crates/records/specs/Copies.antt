@@ -3,7 +3,7 @@ use Prim.Native.Nat.{ℕ}
 use mathlib.Core.List.{List, [], _∷_, _++_}
 use lib.Chars.{codes}
 use lib.IntN.{ℤ}
-use lib.ListN.{replicate}
+use lib.ListN.{getD, replicate}
 use Rattle.std.specs.declared.option.Option.{Option}
 use Rattle.std.specs.declared.option.Option.the-variants.{Some, None}
 use Rattle.codes.specs.Codes.{techniqueLetter, constraintDigit, placeLetter}
@@ -99,3 +99,31 @@ parameterParts index p = blanks 1 ∷ indexText index ∷ parameterKeyText (p .k
 
 abbrev pub parameterText : ℕ → Parameter → List ℕ
 parameterText index p = joined (parameterParts index p)
+
+abbrev pub agenciesParts : Header → List (List ℕ)
+agenciesParts h = blanks 1 ∷ h .«file_agency» ∷ blanks 1 ∷ momentText (h .created) ∷ blanks 1 ∷ h .«data_agency» ∷ []
+
+abbrev pub agenciesText : Header → List ℕ
+agenciesText h = joined (agenciesParts h)
+
+abbrev pub periodParts : Header → List (List ℕ)
+periodParts h = blanks 1 ∷ momentText (h .start) ∷ blanks 1 ∷ momentText (h .end) ∷ []
+
+abbrev pub periodText : Header → List ℕ
+periodText h = joined (periodParts h)
+
+-- blank, and the letter of place i or blank
+abbrev pub letterText : ℕ → List (Option Contents) → List ℕ
+letterText i letters = 32 ∷ placeLetter (getD letters i None) ∷ []
+
+-- six places, blank
+abbrev pub lettersText : List (Option Contents) → List ℕ
+lettersText l = letterText 0 l ++ (letterText 1 l ++ (letterText 2 l ++ (letterText 3 l ++ (letterText 4 l ++ (letterText 5 l ++ blanks 1)))))
+
+-- with the count of estimates and their letters
+abbrev pub headerParts : Header → ℕ → List (Option Contents) → List (List ℕ)
+headerParts h count letters = codes "%=SNX 2.02" ∷ agenciesText h ∷ periodText h ∷ blanks 1 ∷ (techniqueLetter (h .technique) ∷ []) ∷ blanks 1 ∷ countText count ∷ blanks 1
+    ∷ (constraintDigit (h .constraint) ∷ []) ∷ lettersText letters ∷ []
+
+abbrev pub headerText : Header → ℕ → List (Option Contents) → List ℕ
+headerText h count letters = joined (headerParts h count letters)

@@ -5,7 +5,9 @@ use mathlib.Core.List.{List, [], _∷_}
 use lib.IntN.{ℤ, pos, negsuc, natAbs}
 use lib.Signed.{_≤ℤ_}
 use lib.ListN.{length}
+use Rattle.std.specs.declared.option.Option.{Option}
 use Rattle.std.specs.declared.option.Option.the-variants.{Some}
+use Rattle.codes.specs.declared.letters.Contents.{Contents}
 use Rattle.std.specs.declared.result.Result.{Result}
 use Rattle.std.specs.declared.result.Result.the-variants.{Ok, Err}
 use Rattle.refusals.specs.declared.Fault.{Fault}
@@ -14,7 +16,7 @@ use Rattle.codes.specs.Text.{readText, readDescription}
 use Rattle.codes.specs.declared.types.ParameterType.{ParameterType}
 use Rattle.decimals.specs.Write.{Canonical, CanonicalDeviation}
 use Rattle.fields.specs.Epoch.{Dated, DatedEpoch}
-use Rattle.records.specs.Copies.{siteText, spanText, parameterText}
+use Rattle.records.specs.Copies.{headerText, siteText, spanText, parameterText}
 use Rattle.records.specs.Headers.{readHeader, readEditedHeader}
 use Rattle.records.specs.Parameters.{readParameter, readIndexed}
 use Rattle.records.specs.Sites.{readSite}
@@ -117,3 +119,6 @@ SpansComeBack = (s : Span) → ValidSpan s → readSpan (spanText s) ≡ Ok s
 
 abbrev pub ParametersComeBack : Type 0
 ParametersComeBack = (n : ℕ) (p : Parameter) → ValidParameter p → (readParameter (parameterText n p) ≡ Ok p) × (n < 100000 → readIndexed (parameterText n p) ≡ Ok (n, p))
+
+abbrev pub HeadersComeBack : Type 0
+HeadersComeBack = (h : Header) (n : ℕ) (letters : List (Option Contents)) → ValidHeader h → (readEditedHeader (headerText h n letters) ≡ Ok h) × (n < 100000 → readHeader (headerText h n letters) ≡ Ok (h, n))

@@ -2,7 +2,11 @@
 ghost use mathlib.Core.Path.{_≡_};
 ghost use lib.ListN.{length};
 ghost use Rattle.records.specs.Headers.{readAgencies, readPeriod, checkLetter, checkLetters, readCounted, readHeaderBy, readHeader, readEditedHeader};
+ghost use Rattle.std.specs.declared.option.Option.the-variants.{None};
+ghost use Rattle.codes.specs.Codes.{placeLetter};
+ghost use Rattle.records.specs.Copies.{agenciesText, periodText, lettersText, headerText};
 use codes::letters::Constraint;
+use codes::letters::Contents;
 use codes::letters::MatrixKind;
 use codes::letters::Technique;
 use codes::letters::read_constraint;
@@ -11,8 +15,10 @@ use codes::letters::read_technique;
 use codes::texts::check_blank;
 use codes::texts::read_text;
 use fields::counts::read_count;
+use fields::counts::write_count;
 use fields::epochs::Moment;
 use fields::epochs::read_moment;
+use fields::epochs::write_moment;
 use refusals::Fault;
 
 // A header line's fields, but for its count and its letters, which follow from the estimates.
@@ -137,4 +143,60 @@ pub fn read_edited_header(line: &[u8; 80]) -> Result<Header, Fault>
 {
     let (header, _) = read_header_by(CountColumns::Ignored, line)?;
     Ok(header)
+}
+
+fn write_agencies(h: &Header) -> [u8; 21]
+    ensures { λ r. ⌜ r ≡ agenciesText (now (h .entry)) ⌝ }
+{
+    let mut out = [b' '; 21];
+    out[18..21].copy_from_slice(&h.data_agency);
+    out[5..17].copy_from_slice(&write_moment(&h.created));
+    out[1..4].copy_from_slice(&h.file_agency);
+    out
+}
+
+fn write_period(h: &Header) -> [u8; 26]
+    ensures { λ r. ⌜ r ≡ periodText (now (h .entry)) ⌝ }
+{
+    let mut out = [b' '; 26];
+    out[14..26].copy_from_slice(&write_moment(&h.end));
+    out[1..13].copy_from_slice(&write_moment(&h.start));
+    out
+}
+
+fn place_letter(place: Option<Contents>) -> u8
+    ensures { λ r. ⌜ r ≡ placeLetter place ⌝ }
+{
+    match place {
+        Some(c) => c.letter(),
+        None => b' ',
+    }
+}
+
+fn write_letters(letters: &[Option<Contents>; 6]) -> [u8; 13]
+    ensures { λ r. ⌜ r ≡ lettersText (now (letters .entry)) ⌝ }
+{
+    let mut out = [b' '; 13];
+    out[1] = place_letter(letters[0]);
+    out[3] = place_letter(letters[1]);
+    out[5] = place_letter(letters[2]);
+    out[7] = place_letter(letters[3]);
+    out[9] = place_letter(letters[4]);
+    out[11] = place_letter(letters[5]);
+    out
+}
+
+// The 80 columns of a fair copy's header line, with the count of the estimates and the letters in their six places.
+pub fn write_header(h: &Header, count: u32, letters: &[Option<Contents>; 6]) -> [u8; 80]
+    ensures { λ r. ⌜ r ≡ headerText (now (h .entry)) count (now (letters .entry)) ⌝ }
+{
+    let mut out = [b' '; 80];
+    out[67..80].copy_from_slice(&write_letters(letters));
+    out[66] = h.constraint.digit();
+    out[60..65].copy_from_slice(&write_count(count));
+    out[58] = h.technique.letter();
+    out[31..57].copy_from_slice(&write_period(h));
+    out[10..31].copy_from_slice(&write_agencies(h));
+    out[0..10].copy_from_slice(b"%=SNX 2.02");
+    out
 }

@@ -43,7 +43,7 @@ pub fn compare_solution_keys(a: &SolutionKey, b: &SolutionKey) -> Ordering
 
 impl SiteKey {
     // Of blanks alone.
-    pub fn blank() -> SiteKey
+    pub(crate) fn blank() -> SiteKey
         ensures { λ r. ⌜ r ≡ blankSiteKey ⌝ }
     {
         SiteKey {
@@ -55,7 +55,7 @@ impl SiteKey {
 
 impl SolutionKey {
     // Of blanks alone.
-    pub fn blank() -> SolutionKey
+    pub(crate) fn blank() -> SolutionKey
         ensures { λ r. ⌜ r ≡ blankSolutionKey ⌝ }
     {
         SolutionKey {

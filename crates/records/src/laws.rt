@@ -2,6 +2,7 @@
 ghost use mathlib.Core.Path.{_≡_};
 ghost use Rattle.records.specs.Laws.{KeysAreOrdered};
 ghost use Rattle.records.specs.Valid.{SitesAreValid, SpansAreValid, ParametersAreValid, HeadersAreValid};
+ghost use Rattle.records.specs.Valid.{SitesComeBack, SpansComeBack, ParametersComeBack, HeadersComeBack};
 
 // The keys of each kind are totally ordered, and only equal keys compare equal.
 pub fn keys_are_ordered() -> u8
@@ -16,6 +17,16 @@ pub fn records_are_valid() -> u8
     ensures spans { λ _. ⌜ SpansAreValid ⌝ }
     ensures parameters { λ _. ⌜ ParametersAreValid ⌝ }
     ensures headers { λ _. ⌜ HeadersAreValid ⌝ }
+{
+    0
+}
+
+// What is written of a valid record is read as it was.
+pub fn records_come_back() -> u8
+    ensures sites { λ _. ⌜ SitesComeBack ⌝ }
+    ensures spans { λ _. ⌜ SpansComeBack ⌝ }
+    ensures parameters { λ _. ⌜ ParametersComeBack ⌝ }
+    ensures headers { λ _. ⌜ HeadersComeBack ⌝ }
 {
     0
 }

@@ -50,7 +50,7 @@ pub struct Parameter {
     pub deviation: Deviation,
 }
 
-pub fn compare_parameter_keys(a: &ParameterKey, b: &ParameterKey) -> Ordering
+fn compare_parameter_keys(a: &ParameterKey, b: &ParameterKey) -> Ordering
     ensures { λ o. ⌜ o ≡ parameterKeyOrder (now (a .entry)) (now (b .entry)) ⌝ }
 {
     let at = compare_solution_keys(&a.at, &b.at);

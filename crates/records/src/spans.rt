@@ -36,7 +36,7 @@ pub struct Span {
 }
 
 // Techniques compare by their letters.
-pub fn compare_span_keys(a: &SpanKey, b: &SpanKey) -> Ordering
+fn compare_span_keys(a: &SpanKey, b: &SpanKey) -> Ordering
     ensures { λ o. ⌜ o ≡ spanKeyOrder (now (a .entry)) (now (b .entry)) ⌝ }
 {
     let at = compare_solution_keys(&a.at, &b.at);
