@@ -2,3 +2,4 @@ pub mod KeyOrders
 pub mod Validity
 pub mod Parts
 pub mod ComeBack
+pub mod Naming

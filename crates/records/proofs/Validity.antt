@@ -215,7 +215,7 @@ measure-valid bs =
     (numbers-come-back .0 (columns 2 23 bs) value e, deviations-come-back .0 (columns 24 35 bs) deviation f))))))
 
 -- a type with its unit is one of the table
-type-known : (o : Option ParameterType) (unit : List ℕ) (t : ParameterType) → inUnit unit o ≡ Ok t → (u : ParameterType) × (o ≡ Some u)
+pub type-known : (o : Option ParameterType) (unit : List ℕ) (t : ParameterType) → inUnit unit o ≡ Ok t → (u : ParameterType) × (o ≡ Some u)
 type-known (Some u) unit t e = (u, refl)
 type-known None unit t e = absurd (let z : _≡_ {A = ℕ} 0 1 = cc in omega arith)
 

@@ -92,11 +92,17 @@ foundType None = Err WrongType
 abbrev pub typeOf : List ℕ → Result ParameterType Fault
 typeOf name = foundType (typeNamed name)
 
+-- the columns after the index with those between the codes not looked at
+abbrev pub pickParameterKey : List ℕ → Result ParameterKey Fault
+pickParameterKey bs =
+    andThen (readText 6 (columns 1 7 bs)) (λ name.
+    andThen (pickSolutionKey (columns 8 20 bs)) (λ at.
+    andThen (readEpoch (columns 21 33 bs)) (λ epoch.
+    Ok (record { at = at; name = name; epoch = epoch }))))
+
 -- a parameter known by the key that a line names, of a type of the table, and blank otherwise
 abbrev pub parameterNamed : List ℕ → Result Parameter Fault
 parameterNamed line =
-    andThen (readText 6 (columns 7 13 line)) (λ name.
-    andThen (pickSolutionKey (columns 14 26 line)) (λ at.
-    andThen (readEpoch (columns 27 39 line)) (λ epoch.
-    andThen (typeOf name) (λ _.
-    Ok (parameterWith (record { at = at; name = name; epoch = epoch }))))))
+    andThen (pickParameterKey (columns 6 39 line)) (λ key.
+    andThen (typeOf (key .name)) (λ _.
+    Ok (parameterWith key)))

@@ -59,9 +59,13 @@ readSpan line =
     andThen (readEpochs (columns 15 80 line)) (λ epochs.
     Ok (record { key = key; start = epochs .0; end = epochs .1; mean = epochs .2 })))
 
+-- the same columns with those between the codes not looked at
+abbrev pub pickSpanKey : List ℕ → Result SpanKey Fault
+pickSpanKey bs =
+    andThen (pickSolutionKey (columns 0 12 bs)) (λ at.
+    andThen (readTechnique (columns 13 14 bs)) (λ technique.
+    Ok (record { at = at; technique = technique })))
+
 -- a span known by the key that a line names, and blank otherwise
 abbrev pub spanNamed : List ℕ → Result Span Fault
-spanNamed line =
-    andThen (pickSolutionKey (columns 1 13 line)) (λ at.
-    andThen (readTechnique (columns 14 15 line)) (λ technique.
-    Ok (spanWith (record { at = at; technique = technique }))))
+spanNamed line = andThen (pickSpanKey (columns 1 15 line)) (λ key. Ok (spanWith key))

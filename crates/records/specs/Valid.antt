@@ -18,9 +18,9 @@ use Rattle.decimals.specs.Write.{Canonical, CanonicalDeviation}
 use Rattle.fields.specs.Epoch.{Dated, DatedEpoch}
 use Rattle.records.specs.Copies.{headerText, siteText, spanText, parameterText}
 use Rattle.records.specs.Headers.{readHeader, readEditedHeader}
-use Rattle.records.specs.Parameters.{readParameter, readIndexed}
-use Rattle.records.specs.Sites.{readSite}
-use Rattle.records.specs.Spans.{readSpan}
+use Rattle.records.specs.Parameters.{readParameter, readIndexed, parameterNamed, parameterWith}
+use Rattle.records.specs.Sites.{readSite, siteNamed, siteWith}
+use Rattle.records.specs.Spans.{readSpan, spanNamed, spanWith}
 use Rattle.records.specs.declared.headers.Header.{Header}
 use Rattle.records.specs.declared.keys.SiteKey.{SiteKey}
 use Rattle.records.specs.declared.keys.SolutionKey.{SolutionKey}
@@ -122,3 +122,13 @@ ParametersComeBack = (n : ℕ) (p : Parameter) → ValidParameter p → (readPar
 
 abbrev pub HeadersComeBack : Type 0
 HeadersComeBack = (h : Header) (n : ℕ) (letters : List (Option Contents)) → ValidHeader h → (readEditedHeader (headerText h n letters) ≡ Ok h) × (n < 100000 → readHeader (headerText h n letters) ≡ Ok (h, n))
+
+-- a line whose record is read names that record
+abbrev pub SitesAreNamed : Type 0
+SitesAreNamed = (line : List ℕ) (s : Site) → readSite line ≡ Ok s → siteNamed line ≡ Ok (siteWith (s .key))
+
+abbrev pub SpansAreNamed : Type 0
+SpansAreNamed = (line : List ℕ) (s : Span) → readSpan line ≡ Ok s → spanNamed line ≡ Ok (spanWith (s .key))
+
+abbrev pub ParametersAreNamed : Type 0
+ParametersAreNamed = (line : List ℕ) (p : Parameter) → readParameter line ≡ Ok p → parameterNamed line ≡ Ok (parameterWith (p .key))

@@ -2,7 +2,7 @@
 ghost use mathlib.Core.Path.{_≡_};
 ghost use Rattle.records.specs.Laws.{KeysAreOrdered};
 ghost use Rattle.records.specs.Valid.{SitesAreValid, SpansAreValid, ParametersAreValid, HeadersAreValid};
-ghost use Rattle.records.specs.Valid.{SitesComeBack, SpansComeBack, ParametersComeBack, HeadersComeBack};
+ghost use Rattle.records.specs.Valid.{SitesAreNamed, SpansAreNamed, ParametersAreNamed, SitesComeBack, SpansComeBack, ParametersComeBack, HeadersComeBack};
 
 // The keys of each kind are totally ordered, and only equal keys compare equal.
 pub fn keys_are_ordered() -> u8
@@ -17,6 +17,15 @@ pub fn records_are_valid() -> u8
     ensures spans { λ _. ⌜ SpansAreValid ⌝ }
     ensures parameters { λ _. ⌜ ParametersAreValid ⌝ }
     ensures headers { λ _. ⌜ HeadersAreValid ⌝ }
+{
+    0
+}
+
+// A line whose record is read names that record: its key alone, read for a drop, is that record's.
+pub fn lines_name_records() -> u8
+    ensures sites { λ _. ⌜ SitesAreNamed ⌝ }
+    ensures spans { λ _. ⌜ SpansAreNamed ⌝ }
+    ensures parameters { λ _. ⌜ ParametersAreNamed ⌝ }
 {
     0
 }

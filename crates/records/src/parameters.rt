@@ -1,7 +1,7 @@
 // Parameters: what is estimated, or taken for known beforehand, of a site, of the earth's rotation and of more.
 ghost use mathlib.Core.Path.{_≡_};
 ghost use lib.ListN.{length};
-ghost use Rattle.records.specs.Parameters.{typeOf, readParameterKey, readMeasure, readParameter, readIndex, readIndexed, parameterNamed, parameterKeyOrder, parameterOrder, blankParameter};
+ghost use Rattle.records.specs.Parameters.{typeOf, readParameterKey, pickParameterKey, readMeasure, readParameter, readIndex, readIndexed, parameterNamed, parameterKeyOrder, parameterOrder, blankParameter};
 ghost use Rattle.records.specs.Copies.{parameterKeyText, measureText, unitOf, parameterText};
 use crate::keys::SolutionKey;
 use crate::keys::compare_solution_keys;
@@ -160,16 +160,25 @@ fn known_type(name: &[u8]) -> Result<ParameterType, Fault>
     }
 }
 
+// The columns after the index, with those between the codes not looked at.
+fn pick_parameter_columns(columns: &[u8]) -> Result<ParameterKey, Fault>
+    requires { ⌜ length (now columns) ≡ 33 ⌝ }
+    ensures { λ r. ⌜ r ≡ pickParameterKey (now (columns .entry)) ⌝ }
+{
+    let name = read_text(&columns[1..7])?;
+    let at = pick_solution_columns(&columns[8..20])?;
+    let epoch = read_epoch(&columns[21..33])?;
+    Ok(ParameterKey { at, name, epoch })
+}
+
 // A blank parameter with the key that a data line names; only the columns of the key's codes and epoch are looked at.
 pub fn read_parameter_key(line: &[u8; 80]) -> Result<Parameter, Fault>
     ensures { λ r. ⌜ r ≡ parameterNamed (now (line .entry)) ⌝ }
 {
-    let name: [u8; 6] = read_text(&line[7..13])?;
-    let at = pick_solution_columns(&line[14..26])?;
-    let epoch = read_epoch(&line[27..39])?;
-    known_type(&name)?;
+    let key = pick_parameter_columns(&line[6..39])?;
+    known_type(&key.name)?;
     let mut parameter = ParameterRecord::blank();
-    parameter.key = ParameterKey { at, name, epoch };
+    parameter.key = key;
     Ok(parameter)
 }
 

@@ -1,7 +1,7 @@
 // Spans: when a solution at a site has observations of a technique.
 ghost use mathlib.Core.Path.{_≡_};
 ghost use lib.ListN.{length};
-ghost use Rattle.records.specs.Spans.{readSpan, readSpanKey, readEpochs, spanNamed, spanKeyOrder, spanOrder, blankSpan};
+ghost use Rattle.records.specs.Spans.{readSpan, readSpanKey, pickSpanKey, readEpochs, spanNamed, spanKeyOrder, spanOrder, blankSpan};
 ghost use Rattle.records.specs.Copies.{spanKeyText, epochsText, spanText};
 use crate::keys::SolutionKey;
 use crate::keys::compare_solution_keys;
@@ -107,14 +107,22 @@ pub fn read_span(line: &[u8; 80]) -> Result<Span, Fault>
     })
 }
 
+// The same fourteen columns, with those between the codes not looked at.
+fn pick_span_columns(columns: &[u8]) -> Result<SpanKey, Fault>
+    requires { ⌜ length (now columns) ≡ 14 ⌝ }
+    ensures { λ r. ⌜ r ≡ pickSpanKey (now (columns .entry)) ⌝ }
+{
+    let at = pick_solution_columns(&columns[0..12])?;
+    let technique = read_technique(&columns[13..14])?;
+    Ok(SpanKey { at, technique })
+}
+
 // A blank span with the key that a data line names; only the columns of the key's codes are looked at.
 pub fn read_span_key(line: &[u8; 80]) -> Result<Span, Fault>
     ensures { λ r. ⌜ r ≡ spanNamed (now (line .entry)) ⌝ }
 {
-    let at = pick_solution_columns(&line[1..13])?;
-    let technique = read_technique(&line[14..15])?;
     let mut span = SpanRecord::blank();
-    span.key = SpanKey { at, technique };
+    span.key = pick_span_columns(&line[1..15])?;
     Ok(span)
 }
 
