@@ -6,8 +6,8 @@ use Rattle.frame.specs.declared.heading.Heading.{Heading}
 use Rattle.frame.specs.declared.line.Line.{Line}
 use Rattle.frame.specs.declared.title.Title.the-variants.{SolutionEstimate}
 use Rattle.frame.specs.declared.walk.Block.{Block}
-use Rattle.header.specs.Header.{andThen}
-use Rattle.header.specs.declared.HeaderLine.{HeaderLine}
+use Rattle.records.specs.Lines.{andThen}
+use Rattle.records.specs.declared.headers.Header.{Header}
 use Rattle.refusals.specs.declared.Fault.{Fault}
 use Rattle.reports.specs.FileReport.{counted, dataLinesOf, headerAt, headerIn}
 use Rattle.reports.specs.FrameReport.{blockLine, blockLines}
@@ -60,7 +60,7 @@ added-after (Ok u) before one two after a b ys whole p q e s =
 added-after (Err x) before one two after a b ys whole p q e s = tt
 
 -- a header whose count is that of the estimates
-pub counted-in : (cs : List ℕ) (bs : List Block) (x : HeaderLine) → Ok x ≡ headerAt (fetched cs) → x .count ≡ dataLinesOf SolutionEstimate bs → Ok x ≡ headerIn cs bs
+pub counted-in : (cs : List ℕ) (bs : List Block) (x : Header × ℕ) → Ok x ≡ headerAt (fetched cs) → x .1 ≡ dataLinesOf SolutionEstimate bs → Ok x ≡ headerIn cs bs
 counted-in cs bs x e n =
     let ok : counted (dataLinesOf SolutionEstimate bs) x ≡ Ok x = cond-true _ _ _ (eq-eqb _ _ n) in
-    sym ok ∙ ap (λ (r : Result HeaderLine Fault). andThen r (counted (dataLinesOf SolutionEstimate bs))) e
+    sym ok ∙ ap (λ (r : Result (Header × ℕ) Fault). andThen r (counted (dataLinesOf SolutionEstimate bs))) e

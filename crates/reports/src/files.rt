@@ -17,10 +17,10 @@ use frame::title::Title;
 use frame::walk::Block;
 use frame::walk::Frame;
 use frame::walk::check;
-use header::HeaderLine;
-use header::read_header_line;
-use header::write_header;
 use media::Source;
+use records::headers::Header;
+use records::headers::read_header;
+use records::headers::write_header;
 use refusals::Fault;
 use refusals::Refusal;
 use std::alloc::AllocError;
@@ -39,33 +39,34 @@ fn data_lines_of(blocks: &[Block], title: Title) -> u32
 }
 
 // The header on the first line.
-fn first_header<S: Source>(source: &S) -> Result<HeaderLine, Fault>
+fn first_header<S: Source>(source: &S) -> Result<(Header, u32), Fault>
     ensures { λ r. ⌜ r ≡ headerAt (fetched (content (now (source .entry)))) ⌝ }
 {
     match fetch(source, 0) {
-        Fetched::Fit(line) => read_header_line(&line.columns),
-        _ => Err(Fault::NoHeaderLine),
+        Fetched::Fit(line) => read_header(&line.columns),
+        _ => Err(Fault::No(Header, u32)),
     }
 }
 
 // The header of a file with these blocks: its count is that of the data lines with estimates.
-fn header_in<S: Source>(source: &S, blocks: &[Block]) -> Result<HeaderLine, Fault>
+fn header_in<S: Source>(source: &S, blocks: &[Block]) -> Result<(Header, u32), Fault>
     ensures { λ r. ⌜ r ≡ headerIn (content (now (source .entry))) (now (blocks .entry)) ⌝ }
 {
-    let found = first_header(source)?;
-    if found.count == data_lines_of(blocks, Title::SolutionEstimate) {
-        Ok(found)
+    let (header, count) = first_header(source)?;
+    if count == data_lines_of(blocks, Title::SolutionEstimate) {
+        Ok((header, count))
     } else {
         Err(Fault::OutOfStep)
     }
 }
 
-// The line of the header.
-fn put_header(out: &mut Vec<u8>, line: &HeaderLine) -> Result<(), AllocError>
-    ensures { λ r. ⌜ ByOk r (λ _. vec-items (now (out .exit)) ≡ vec-items (now (out .entry)) ++ headerLine (now (line .entry))) (λ _. Unit {0}) ⌝ }
+// The line of the header: the columns from the first agency to the constraint, as a fair copy has them.
+fn put_header(out: &mut Vec<u8>, header: &Header, count: u32) -> Result<(), AllocError>
+    ensures { λ r. ⌜ ByOk r (λ _. vec-items (now (out .exit)) ≡ vec-items (now (out .entry)) ++ headerLine (now (header .entry), count)) (λ _. Unit {0}) ⌝ }
 {
     out.extend_from_slice(b"HEADER ")?;
-    out.extend_from_slice(&write_header(line))?;
+    let line = write_header(header, count, &[None; 6]);
+    out.extend_from_slice(&line[11..67])?;
     out.extend_from_slice(b"\n")
 }
 
@@ -80,8 +81,8 @@ fn put_file<S: Source>(
 {
     let blocks = front(&frame.blocks, frame.count);
     match header_in(source, blocks) {
-        Ok(line) => {
-            put_header(out, &line)?;
+        Ok((header, count)) => {
+            put_header(out, &header, count)?;
             put_blocks(heap, out, source, blocks)?;
             put_last(heap, out, frame.lines)
         }
