@@ -44,7 +44,7 @@ fn first_header<S: Source>(source: &S) -> Result<(Header, u32), Fault>
 {
     match fetch(source, 0) {
         Fetched::Fit(line) => read_header(&line.columns),
-        _ => Err(Fault::No(Header, u32)),
+        _ => Err(Fault::NoHeaderLine),
     }
 }
 
