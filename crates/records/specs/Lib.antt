@@ -7,3 +7,4 @@ pub mod Parameters
 pub mod Copies
 pub mod Laws
 pub mod Valid
+pub mod Examples
