@@ -1,5 +1,6 @@
 // What holds of the records and their lines. Each function does nothing: its contract is the law.
 ghost use mathlib.Core.Path.{_≡_};
+ghost use Rattle.records.specs.Elements.{CellsComeBack};
 ghost use Rattle.records.specs.Examples.{LinesOfTheGate};
 ghost use Rattle.records.specs.Laws.{KeysAreOrdered};
 ghost use Rattle.records.specs.Valid.{SitesAreValid, SpansAreValid, ParametersAreValid, HeadersAreValid};
@@ -37,6 +38,7 @@ pub fn records_come_back() -> u8
     ensures spans { λ _. ⌜ SpansComeBack ⌝ }
     ensures parameters { λ _. ⌜ ParametersComeBack ⌝ }
     ensures headers { λ _. ⌜ HeadersComeBack ⌝ }
+    ensures cells { λ _. ⌜ CellsComeBack ⌝ }
 {
     0
 }
