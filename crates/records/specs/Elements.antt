@@ -16,6 +16,7 @@ use Rattle.fields.specs.Angle.{columns}
 use Rattle.fields.specs.Count.{readCount, indexText}
 use Rattle.records.specs.Copies.{joined, blanks}
 use Rattle.records.specs.Lines.{andThen}
+use Rattle.records.specs.Valid.{Gives}
 use Rattle.records.specs.declared.elements.MatrixLine.{MatrixLine}
 
 -- row, blank, column
@@ -74,3 +75,17 @@ oneCell row column value = record { row = row; column = column; first = value; s
 -- a cell that is written is read as it was
 abbrev pub CellsComeBack : Type 0
 CellsComeBack = (row column : ℕ) (value : Number) → row < 100000 → column < 100000 → Canonical 14 value → readMatrixLine (matrixText row column value) ≡ Ok (oneCell row column value)
+
+abbrev pub ValidElement : Option Number → Type 0
+ValidElement None = Unit {0}
+ValidElement (Some n) = Canonical 14 n
+
+pub record ValidMatrixLine (m : MatrixLine) : Type 0 where
+  pub row : m .row < 100000
+  pub column : m .column < 100000
+  pub first : Canonical 14 (m .first)
+  pub second : ValidElement (m .second)
+  pub third : ValidElement (m .third)
+
+abbrev pub MatrixLinesAreValid : Type 0
+MatrixLinesAreValid = (line : List ℕ) → Gives ValidMatrixLine (readMatrixLine line)

@@ -13,6 +13,7 @@ use Rattle.codes.specs.declared.letters.Technique.the-variants.{Gnss}
 use Rattle.fields.specs.declared.epochs.Epoch.the-variants.{At}
 use Rattle.fields.specs.declared.epochs.Moment.{Moment}
 use Rattle.records.specs.Copies.{headerText, siteText, spanText, parameterText}
+use Rattle.records.specs.Elements.{matrixText}
 use Rattle.records.specs.declared.headers.Header.{Header}
 use Rattle.records.specs.declared.keys.SolutionKey.{SolutionKey}
 use Rattle.records.specs.declared.parameters.Parameter.{Parameter}
@@ -57,3 +58,5 @@ LinesOfTheGate =
     × (spanText firstDay ≡ padded 80 (codes " GRD1 A  1    P 10:001:00000 10:002:00000 10:001:43200"))
     × (parameterText 1 easting ≡ codes "     1 STAX   GRD1 A  1    10:001:43200 m    2  4.20000000000000E+06 1.50000E-03")
     × (parameterText 2 northing ≡ codes "     2 STAY   GRD1 A  1    10:001:43200 m    2 -2.50000000000000E-01 0.00000E+00")
+    × (matrixText 1 1 (record { negative = false; mantissa = 225000000000000; exponent = negsuc 5 }) ≡ padded 80 (codes "     1     1  2.25000000000000E-06"))
+    × (matrixText 2 1 (record { negative = true; mantissa = 100000000000000; exponent = negsuc 6 }) ≡ padded 80 (codes "     2     1 -1.00000000000000E-07"))

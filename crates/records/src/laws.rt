@@ -1,6 +1,6 @@
 // What holds of the records and their lines. Each function does nothing: its contract is the law.
 ghost use mathlib.Core.Path.{_≡_};
-ghost use Rattle.records.specs.Elements.{CellsComeBack};
+ghost use Rattle.records.specs.Elements.{CellsComeBack, MatrixLinesAreValid};
 ghost use Rattle.records.specs.Examples.{LinesOfTheGate};
 ghost use Rattle.records.specs.Laws.{KeysAreOrdered};
 ghost use Rattle.records.specs.Valid.{SitesAreValid, SpansAreValid, ParametersAreValid, HeadersAreValid};
@@ -19,6 +19,7 @@ pub fn records_are_valid() -> u8
     ensures spans { λ _. ⌜ SpansAreValid ⌝ }
     ensures parameters { λ _. ⌜ ParametersAreValid ⌝ }
     ensures headers { λ _. ⌜ HeadersAreValid ⌝ }
+    ensures matrices { λ _. ⌜ MatrixLinesAreValid ⌝ }
 {
     0
 }

@@ -4,4 +4,4 @@ use Rattle.records.proofs.laws.examples_hold.Needs as need
 
 pub returns : need.returns
 unfolding types
-returns c = (refl, refl, refl, refl, refl)
+returns c = (refl, refl, refl, refl, refl, refl, refl)
