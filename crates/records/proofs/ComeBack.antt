@@ -1,5 +1,8 @@
 -- What is written of a valid record is read as it was. Assumes nothing.
-use Prim.Native.Nat.{ℕ}
+use Prim.Native.Nat.{ℕ, _<_}
+use Rattle.decimals.specs.Write.{Canonical}
+use Rattle.decimals.specs.declared.number.Number.{Number}
+use Rattle.records.specs.Elements.{readPlace, readElements, readMatrixLine, placeParts, placeText, singleParts, singleText, matrixParts, matrixText, CellsComeBack}
 use mathlib.Core.Path.{_≡_, refl, sym, ap, subst, _∙_}
 use mathlib.Core.List.{List, [], _∷_, _++_}
 use lib.IntN.{ℤ}
@@ -338,3 +341,34 @@ headers-come-back h n l v = (
   then-step (readHeaderBy Ignored (headerText h n l)) (h, 0) _ (header-back Ignored h n 0 l v refl) refl,
   λ small. header-back Read h n n l v (counts-come-back .1 n small .1),
 )
+
+-- ---- cells
+
+place-fits : (i j : ℕ) → Fits (5 ∷ 1 ∷ 5 ∷ []) (placeParts i j)
+place-fits i j = (widths-are-exact .4 i, (refl, (widths-are-exact .4 j, tt)))
+
+place-back : (i j : ℕ) → i < 100000 → j < 100000 → readPlace (placeText i j) ≡ Ok (i, j)
+place-back i j li lj =
+    let at = part-at (5 ∷ 1 ∷ 5 ∷ []) (placeParts i j) (place-fits i j) in
+    then-step (readCount (columns 0 5 (placeText i j))) i _ (ap readCount (at 0) ∙ counts-come-back .1 i li .0) (
+    then-step (checkBlank (columns 5 6 (placeText i j))) tt _ (ap checkBlank (at 1)) (
+    then-step (readCount (columns 6 11 (placeText i j))) j _ (ap readCount (at 2) ∙ counts-come-back .1 j lj .0)
+    refl))
+
+single-fits : (n : Number) → Fits (1 ∷ 21 ∷ 46 ∷ []) (singleParts n)
+single-fits n = (refl, (numbers-come-back .2 n, (refl, tt)))
+
+single-back : (n : Number) → Canonical 14 n → readElements (singleText n) ≡ Ok (n, None, None)
+single-back n v =
+    let at = part-at (1 ∷ 21 ∷ 46 ∷ []) (singleParts n) (single-fits n) in
+    then-step (readNumber (columns 1 22 (singleText n))) n _ (ap readNumber (at 1) ∙ numbers-come-back .1 n v)
+    refl
+
+pub cells-come-back : CellsComeBack
+cells-come-back i j n li lj v =
+    let f : Fits (1 ∷ 11 ∷ 68 ∷ []) (matrixParts i j n) =
+    (refl, (full-width (5 ∷ 1 ∷ 5 ∷ []) (placeParts i j) (place-fits i j), (full-width (1 ∷ 21 ∷ 46 ∷ []) (singleParts n) (single-fits n), tt))) in
+    let at = part-at (1 ∷ 11 ∷ 68 ∷ []) (matrixParts i j n) f in
+    then-step (readPlace (columns 1 12 (matrixText i j n))) (i, j) _ (ap readPlace (at 1) ∙ place-back i j li lj) (
+    then-step (readElements (columns 12 80 (matrixText i j n))) (n, None, None) _ (ap readElements (at 2) ∙ single-back n v)
+    refl)

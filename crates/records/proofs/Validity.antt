@@ -29,6 +29,12 @@ use Rattle.fields.specs.Epoch.{Dated, DatedEpoch, readEpoch, readMoment}
 use Rattle.fields.specs.declared.epochs.Epoch.{Epoch}
 use Rattle.fields.specs.declared.epochs.Moment.{Moment}
 use Rattle.fields.proofs.Stamps.{epochs-come-back, moments-come-back}
+use mathlib.Core.Bool.{Bool, true, false, cond}
+use lib.ListN.{length-take}
+use Rattle.decimals.specs.Number.{blank}
+use Rattle.fields.specs.Count.{readCount}
+use Rattle.fields.proofs.Degrees.{counts-come-back}
+use Rattle.records.specs.Elements.{readPlace, readElement, readElements, readMatrixLine, ValidElement, ValidMatrixLine, MatrixLinesAreValid}
 use Rattle.records.specs.Headers.{readAgencies, readPeriod, readCounted, checkLetters, readHeaderBy}
 use Rattle.records.specs.Parameters.{readParameterKey, readMeasure, readParameter}
 use Rattle.records.specs.Spans.{readSpanKey, readEpochs, readSpan}
@@ -290,3 +296,53 @@ headers-are-valid line p = (
   header-valid Read line p,
   then-holds ValidHeader (readHeaderBy Ignored line) _ (λ h e. given With-count (readHeaderBy Ignored line) h e (header-valid Ignored line p)),
 )
+
+-- ---- matrix lines
+
+count-small : (i j : ℕ) (bs : List ℕ) (n : ℕ) → j - i ≤ 5 → readCount (columns i j bs) ≡ Ok n → n < 100000
+count-small i j bs n few e =
+    let h : length (columns i j bs) ≤ 5 = omega (arith, length-take (j - i) (drop i bs)) in
+    counts-come-back .0 (columns i j bs) n h e
+
+abbrev Small : ℕ × ℕ → Type 0
+Small p = (p .0 < 100000) × (p .1 < 100000)
+
+place-valid : (bs : List ℕ) → Gives Small (readPlace bs)
+place-valid bs =
+    then-holds Small (readCount (columns 0 5 bs)) _ (λ row e.
+    then-holds Small (checkBlank (columns 5 6 bs)) _ (λ _ _.
+    then-holds Small (readCount (columns 6 11 bs)) _ (λ column f.
+    (count-small 0 5 bs row (lit≤ tt) e, count-small 6 11 bs column (lit≤ tt) f))))
+
+either-gives : {A : Type 0} (P : A → Type 0) (b : Bool) (x y : Result A Fault) → Gives P x → Gives P y → Gives P (cond b x y)
+either-gives P true x y p q = p
+either-gives P false x y p q = q
+
+element-valid : (bs : List ℕ) → Gives ValidElement (readElement bs)
+element-valid bs = either-gives ValidElement (blank bs) (Ok None) (andThen (readNumber bs) (λ value. Ok (Some value))) tt
+    (then-holds ValidElement (readNumber bs) (λ value. Ok (Some value)) (λ value e. numbers-come-back .0 bs value e))
+
+abbrev Three : Number × Option Number × Option Number → Type 0
+Three t = Canonical 14 (t .0) × ValidElement (t .1) × ValidElement (t .2)
+
+elements-valid : (bs : List ℕ) → Gives Three (readElements bs)
+elements-valid bs =
+    then-holds Three (checkBlank (columns 0 1 bs)) _ (λ _ _.
+    then-holds Three (readNumber (columns 1 22 bs)) _ (λ first e.
+    then-holds Three (checkBlank (columns 22 23 bs)) _ (λ _ _.
+    then-holds Three (readElement (columns 23 44 bs)) _ (λ second f.
+    then-holds Three (checkBlank (columns 44 45 bs)) _ (λ _ _.
+    then-holds Three (readElement (columns 45 66 bs)) _ (λ third g.
+    then-holds Three (checkBlank (columns 66 68 bs)) _ (λ _ _. (
+      numbers-come-back .0 (columns 1 22 bs) first e,
+      given ValidElement (readElement (columns 23 44 bs)) second f (element-valid (columns 23 44 bs)),
+      given ValidElement (readElement (columns 45 66 bs)) third g (element-valid (columns 45 66 bs)),
+    ))))))))
+
+pub matrix-lines-are-valid : MatrixLinesAreValid
+matrix-lines-are-valid line =
+    then-holds ValidMatrixLine (readPlace (columns 1 12 line)) _ (λ place e.
+    then-holds ValidMatrixLine (readElements (columns 12 80 line)) _ (λ elements f.
+    let (row, column) = given Small (readPlace (columns 1 12 line)) place e (place-valid (columns 1 12 line)) in
+    let (first, second, third) = given Three (readElements (columns 12 80 line)) elements f (elements-valid (columns 12 80 line)) in
+    record { row = row; column = column; first = first; second = second; third = third }))

@@ -7,3 +7,5 @@ pub mod Parameters
 pub mod Copies
 pub mod Laws
 pub mod Valid
+pub mod Elements
+pub mod Examples

@@ -1,5 +1,7 @@
 // What holds of the records and their lines. Each function does nothing: its contract is the law.
 ghost use mathlib.Core.Path.{_≡_};
+ghost use Rattle.records.specs.Elements.{CellsComeBack, MatrixLinesAreValid};
+ghost use Rattle.records.specs.Examples.{LinesOfTheGate};
 ghost use Rattle.records.specs.Laws.{KeysAreOrdered};
 ghost use Rattle.records.specs.Valid.{SitesAreValid, SpansAreValid, ParametersAreValid, HeadersAreValid};
 ghost use Rattle.records.specs.Valid.{SitesAreNamed, SpansAreNamed, ParametersAreNamed, SitesComeBack, SpansComeBack, ParametersComeBack, HeadersComeBack};
@@ -17,6 +19,7 @@ pub fn records_are_valid() -> u8
     ensures spans { λ _. ⌜ SpansAreValid ⌝ }
     ensures parameters { λ _. ⌜ ParametersAreValid ⌝ }
     ensures headers { λ _. ⌜ HeadersAreValid ⌝ }
+    ensures matrices { λ _. ⌜ MatrixLinesAreValid ⌝ }
 {
     0
 }
@@ -36,6 +39,14 @@ pub fn records_come_back() -> u8
     ensures spans { λ _. ⌜ SpansComeBack ⌝ }
     ensures parameters { λ _. ⌜ ParametersComeBack ⌝ }
     ensures headers { λ _. ⌜ HeadersComeBack ⌝ }
+    ensures cells { λ _. ⌜ CellsComeBack ⌝ }
+{
+    0
+}
+
+// A worked example: the lines of a small solution.
+pub fn examples_hold() -> u8
+    ensures { λ _. ⌜ LinesOfTheGate ⌝ }
 {
     0
 }

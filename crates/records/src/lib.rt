@@ -1,4 +1,5 @@
 // The records of a solution: their keys, and their lines.
+pub mod elements;
 pub mod headers;
 pub mod keys;
 pub mod laws;
