@@ -1,6 +1,5 @@
 use Prim.Native.Nat.{ℕ}
 use Rattle.frame.specs.declared.walk.Block.{Block}
-
 use Rattle.refusals.specs.declared.Fault.{Fault}
 use Rattle.reports.proofs.Adds.{added, added-after}
 use Rattle.reports.proofs.files.put_file.Needs as need

@@ -12,4 +12,4 @@ returns c =
     let word : vec-items (c .extend-from-slice .last .self) ≡ vec-items (c .args .out .now) ++ codes "HEADER " = granted (c .extend-from-slice .result) _ _ _ _ (c .in-Continue-extend-from-slice .was tt) (c .extend-from-slice .ensures .items) in
     let text = granted (c .extend-from-slice-2 .result) _ _ _ _ (c .in-Continue-extend-from-slice-2 .was tt) (c .extend-from-slice-2 .ensures .items) in
     added-third (c .extend-from-slice-3 .result) (vec-items (c .args .out .now)) _ _ _ (codes "HEADER ") _ _ _ word
-      (text ∙ ap (λ (t : List ℕ). vec-items (c .extend-from-slice .last .self) ++ take 56 (drop 11 t)) (c .write-header-line .ensures)) (c .extend-from-slice-3 .ensures .items) refl
+    (text ∙ ap (λ (t : List ℕ). vec-items (c .extend-from-slice .last .self) ++ take 56 (drop 11 t)) (c .write-header-line .ensures)) (c .extend-from-slice-3 .ensures .items) refl
