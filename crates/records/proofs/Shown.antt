@@ -1,16 +1,16 @@
 -- Lines that are written can be printed. Assumes nothing.
-use Prim.Native.Nat.{ℕ, zero, suc, _+_, _*_, _/_, _%_, _^_, _≤_, _<_}
-use mathlib.Core.Path.{_≡_, refl, sym, ap, subst, _∙_}
+use Prim.Native.Nat.{ℕ, zero, suc, _+_, _/_, _%_, _^_, _≤_, _<_}
+use mathlib.Core.Path.{_≡_, refl, sym, ap, subst}
 use mathlib.Core.Bool.{Bool, true, false, cond, _&&_}
 use mathlib.Core.List.{List, [], _∷_, _++_}
 use native.Mathlib.Omega.{arith}
 use lib.Dec.{lit≤, eqb, leb}
 use borrow.Author.Tests.{leb-true}
 use lib.IntN.{ℤ, natAbs}
-use lib.ListN.{length, getD, replicate}
+use lib.ListN.{length, getD}
 use Rattle.std.specs.declared.option.Option.{Option}
 use Rattle.std.specs.declared.option.Option.the-variants.{Some, None}
-use Rattle.codes.specs.Codes.{techniqueLetter, constraintDigit, contentsLetter, placeLetter}
+use Rattle.codes.specs.Codes.{techniqueLetter, constraintDigit, placeLetter}
 use Rattle.codes.specs.ParameterTypes.{types, noType, typeNamed}
 use Rattle.codes.specs.declared.letters.Constraint.{Constraint}
 use Rattle.codes.specs.declared.letters.Constraint.the-variants.{Fixed, Significant, Unconstrained}
@@ -25,16 +25,14 @@ use Rattle.decimals.specs.Write.{fixed, below, digitsText, numberText, deviatio
 use Rattle.decimals.specs.declared.number.Deviation.{Deviation}
 use Rattle.decimals.specs.declared.number.Number.{Number}
 use Rattle.fields.specs.Angle.{angleText, heightText}
-use Rattle.fields.specs.Count.{indexText, countText}
-use Rattle.fields.specs.Epoch.{stamp, epochText, momentText}
+use Rattle.fields.specs.Epoch.{stamp, epochText}
 use Rattle.fields.specs.declared.epochs.Epoch.{Epoch}
 use Rattle.fields.specs.declared.epochs.Epoch.the-variants.{Open, At}
-use Rattle.fields.specs.declared.epochs.Moment.{Moment}
 use Rattle.records.specs.Copies.{joined, blanks, siteKeyParts, siteKeyText, solutionKeyParts, solutionKeyText, positionParts, positionText, siteParts, siteText}
 use Rattle.records.specs.Copies.{spanKeyParts, epochsParts, spanParts, parameterKeyParts, measureParts, unitIn, unitOf, parameterParts, agenciesParts, periodParts, letterText, lettersText, headerParts}
 use Rattle.records.specs.Elements.{placeParts, singleParts, matrixParts}
 use Rattle.records.specs.Shown.{LinesAreShown}
-use Rattle.records.specs.Valid.{Printable, ValidSiteKey, ValidSolutionKey, ValidSite, ValidSpan, ValidParameterKey, ValidParameter, ValidHeader}
+use Rattle.records.specs.Valid.{Printable, ValidSiteKey, ValidSolutionKey, ValidSite, ValidSpan, ValidParameter, ValidHeader}
 use Rattle.records.specs.declared.headers.Header.{Header}
 use Rattle.records.specs.declared.keys.SiteKey.{SiteKey}
 use Rattle.records.specs.declared.keys.SolutionKey.{SolutionKey}
