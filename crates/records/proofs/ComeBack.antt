@@ -2,13 +2,12 @@
 use Prim.Native.Nat.{ℕ, _<_}
 use Rattle.decimals.specs.Write.{Canonical}
 use Rattle.decimals.specs.declared.number.Number.{Number}
-use Rattle.records.specs.Elements.{readPlace, readElements, readMatrixLine, placeParts, placeText, singleParts, singleText, matrixParts, matrixText, CellsComeBack}
+use Rattle.records.specs.Elements.{readPlace, readElements, placeParts, placeText, singleParts, singleText, matrixParts, matrixText, CellsComeBack}
 use mathlib.Core.Path.{_≡_, refl, sym, ap, subst, _∙_}
-use mathlib.Core.List.{List, [], _∷_, _++_}
+use mathlib.Core.List.{List, [], _∷_}
 use lib.IntN.{ℤ}
-use lib.ListN.{length, getD, take, drop}
-use Rattle.std.specs.declared.result.Result.{Result}
-use Rattle.std.specs.declared.result.Result.the-variants.{Ok, Err}
+use lib.ListN.{length, getD}
+use Rattle.std.specs.declared.result.Result.the-variants.{Ok}
 use Rattle.codes.specs.Codes.{readTechnique, techniqueLetter}
 use Rattle.codes.specs.Text.{readText, readDescription, checkBlank}
 use Rattle.codes.specs.declared.letters.Technique.{Technique}
@@ -16,16 +15,16 @@ use Rattle.codes.proofs.Spellings.{codes-come-back}
 use Rattle.fields.specs.Angle.{columns, readLongitude, readLatitude, readHeight}
 use Rattle.fields.proofs.Columns.{widths-are-exact}
 use Rattle.fields.proofs.Degrees.{longitudes-come-back, latitudes-come-back, heights-come-back}
-use Rattle.records.specs.Copies.{joined, blanks, siteKeyParts, siteKeyText, solutionKeyParts, solutionKeyText, positionParts, positionText, siteParts, siteText}
+use Rattle.records.specs.Copies.{siteKeyParts, siteKeyText, solutionKeyParts, solutionKeyText, positionParts, positionText, siteParts, siteText}
 use Rattle.records.specs.Keys.{readSiteKey, readSolutionKey}
 use Rattle.records.specs.Sites.{readPosition, readSite}
-use Rattle.records.specs.Valid.{SitesComeBack, KeptText, ValidSiteKey, ValidSolutionKey, ValidPosition, ValidSite}
+use Rattle.records.specs.Valid.{SitesComeBack, ValidSiteKey, ValidSolutionKey, ValidPosition, ValidSite}
 use Rattle.records.specs.declared.keys.SiteKey.{SiteKey}
 use Rattle.records.specs.declared.keys.SolutionKey.{SolutionKey}
 use Rattle.records.specs.declared.sites.Site.{Site}
 use Rattle.std.specs.declared.option.Option.{Option}
 use Rattle.std.specs.declared.option.Option.the-variants.{Some, None}
-use Rattle.codes.specs.Codes.{readConstraint, constraintDigit, readContents, placeLetter}
+use Rattle.codes.specs.Codes.{readConstraint, constraintDigit, placeLetter}
 use Rattle.codes.specs.ParameterTypes.{typeNamed, checkType}
 use Rattle.codes.specs.declared.letters.Constraint.{Constraint}
 use Rattle.codes.specs.declared.letters.Contents.{Contents}
@@ -52,7 +51,7 @@ use Rattle.records.specs.declared.parameters.ParameterKey.{ParameterKey}
 use Rattle.records.specs.declared.parameters.Parameter.{Parameter}
 use Rattle.records.specs.declared.spans.SpanKey.{SpanKey}
 use Rattle.records.specs.declared.spans.Span.{Span}
-use Rattle.records.proofs.Parts.{then-step, Fits, offset, part-at, full-width}
+use Rattle.records.proofs.Parts.{then-step, Fits, part-at, full-width}
 
 -- ---- keys
 

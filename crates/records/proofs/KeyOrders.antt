@@ -11,7 +11,6 @@ use mathlib.Core.List.{[], _∷_}
 use Rattle.std.specs.Keys.{rank}
 use Rattle.std.specs.Orderings.{thenBy}
 use Rattle.std.specs.declared.cmp.Ordering.{Ordering}
-use Rattle.std.specs.declared.cmp.Ordering.the-variants.{Less, Equal, Greater}
 use Rattle.codes.specs.Order.{TotalOrder, lex}
 use Rattle.codes.proofs.Comparing.{then-flip, both, lex-order, rank-order}
 use Rattle.codes.proofs.Comparing.{then-order as then-after}

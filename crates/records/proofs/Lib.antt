@@ -3,3 +3,4 @@ pub mod Validity
 pub mod Parts
 pub mod ComeBack
 pub mod Naming
+pub mod Shown

@@ -2,15 +2,12 @@
 use Prim.Native.Nat.{ℕ}
 use mathlib.Core.Path.{_≡_, refl, ap}
 use mathlib.Core.List.{List}
-use Rattle.std.specs.declared.option.Option.{Option}
-use Rattle.std.specs.declared.option.Option.the-variants.{Some}
 use Rattle.std.specs.declared.result.Result.{Result}
 use Rattle.std.specs.declared.result.Result.the-variants.{Ok}
 use Rattle.refusals.specs.declared.Fault.{Fault}
 use Rattle.codes.specs.Codes.{readTechnique}
 use Rattle.codes.specs.ParameterTypes.{typeNamed, checkType}
 use Rattle.codes.specs.Text.{readText, readDescription, checkBlank}
-use Rattle.codes.specs.declared.types.ParameterType.{ParameterType}
 use Rattle.fields.specs.Angle.{columns}
 use Rattle.fields.specs.Epoch.{readEpoch}
 use Rattle.records.specs.Keys.{readSiteKey, pickSiteKey, readSolutionKey, pickSolutionKey}

@@ -1,12 +1,12 @@
 -- Lines made of parts of known widths: each part stands in its columns. Assumes nothing.
 use Prim.Native.Nat.{ℕ, zero, suc, _+_}
-use mathlib.Core.Path.{_≡_, refl, sym, ap, subst, _∙_}
+use mathlib.Core.Path.{_≡_, refl, ap, subst, _∙_}
 use mathlib.Core.List.{List, [], _∷_, _++_}
 use lib.ListN.{length, getD, take, drop, length-append}
 use native.Mathlib.Omega.{arith}
 use lib.Seq.{take-append-seam}
 use Rattle.std.specs.declared.result.Result.{Result}
-use Rattle.std.specs.declared.result.Result.the-variants.{Ok, Err}
+use Rattle.std.specs.declared.result.Result.the-variants.{Ok}
 use Rattle.refusals.specs.declared.Fault.{Fault}
 use Rattle.records.specs.Copies.{joined}
 use Rattle.records.specs.Lines.{andThen}

@@ -1,16 +1,15 @@
 -- What reading gives is valid. Assumes nothing.
 use Prim.Native.Nat.{ℕ, zero, suc, _-_, _≤_, _<_}
-use mathlib.Core.Path.{_≡_, refl, sym, ap, subst, _∙_}
+use mathlib.Core.Path.{_≡_, refl, sym, subst}
 use mathlib.Core.List.{List, [], _∷_, _++_}
 use native.Mathlib.Omega.{arith}
 use lib.Dec.{lit≤}
-use lib.IntN.{ℤ}
 use lib.ListN.{length, take, drop, replicate}
 use Rattle.std.specs.declared.result.Result.{Result}
 use Rattle.std.specs.declared.result.Result.the-variants.{Ok, Err}
 use Rattle.refusals.specs.declared.Fault.{Fault}
 use Rattle.codes.specs.Codes.{readTechnique}
-use Rattle.codes.specs.Text.{Word, Phrase, padded, readText, readDescription, checkBlank}
+use Rattle.codes.specs.Text.{padded, readText, readDescription, checkBlank}
 use Rattle.codes.proofs.Phrases.{texts-have-form, texts-come-back, descriptions-have-form, descriptions-come-back}
 use Rattle.fields.specs.Angle.{columns, readLongitude, readLatitude, readHeight}
 use Rattle.fields.proofs.Degrees.{longitudes-come-back, latitudes-come-back, heights-come-back}
@@ -34,7 +33,7 @@ use lib.ListN.{length-take}
 use Rattle.decimals.specs.Number.{blank}
 use Rattle.fields.specs.Count.{readCount}
 use Rattle.fields.proofs.Degrees.{counts-come-back}
-use Rattle.records.specs.Elements.{readPlace, readElement, readElements, readMatrixLine, ValidElement, ValidMatrixLine, MatrixLinesAreValid}
+use Rattle.records.specs.Elements.{readPlace, readElement, readElements, ValidElement, ValidMatrixLine, MatrixLinesAreValid}
 use Rattle.records.specs.Headers.{readAgencies, readPeriod, readCounted, checkLetters, readHeaderBy}
 use Rattle.records.specs.Parameters.{readParameterKey, readMeasure, readParameter}
 use Rattle.records.specs.Spans.{readSpanKey, readEpochs, readSpan}
@@ -46,7 +45,7 @@ use Rattle.records.specs.declared.spans.SpanKey.{SpanKey}
 use Rattle.records.specs.Keys.{readSiteKey, readSolutionKey}
 use Rattle.records.specs.Lines.{andThen}
 use Rattle.records.specs.Sites.{readPosition, readSite}
-use Rattle.records.specs.Valid.{Gives, Printable, KeptBy, KeptText, KeptDescription, ValidSiteKey, ValidSolutionKey, ValidPosition, ValidSite, SitesAreValid}
+use Rattle.records.specs.Valid.{Gives, Printable, KeptText, KeptDescription, ValidSiteKey, ValidSolutionKey, ValidPosition, ValidSite, SitesAreValid}
 
 -- a step of a line: what holds after every answer of the first field holds after both
 pub then-holds : {A B : Type 0} (P : B → Type 0) (r : Result A Fault) (f : A → Result B Fault) → ((a : A) → r ≡ Ok a → Gives P (f a)) → Gives P (andThen r f)

@@ -2,7 +2,7 @@
 use Prim.Native.Nat.{ℕ}
 use mathlib.Core.Path.{_≡_}
 use mathlib.Core.Bool.{true, false}
-use mathlib.Core.List.{List, [], _∷_, _++_}
+use mathlib.Core.List.{[], _∷_}
 use lib.Chars.{codes}
 use lib.IntN.{pos, negsuc}
 use Rattle.std.specs.declared.option.Option.the-variants.{Some, None}

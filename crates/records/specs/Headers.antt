@@ -2,7 +2,7 @@
 use Prim.Native.Nat.{ℕ}
 use mathlib.Core.List.{List}
 use Rattle.std.specs.declared.result.Result.{Result}
-use Rattle.std.specs.declared.result.Result.the-variants.{Ok, Err}
+use Rattle.std.specs.declared.result.Result.the-variants.{Ok}
 use Rattle.refusals.specs.declared.Fault.{Fault}
 use Rattle.codes.specs.Codes.{readTechnique, readConstraint, readContents}
 use Rattle.codes.specs.Text.{readText, checkBlank}

@@ -9,3 +9,4 @@ pub mod Laws
 pub mod Valid
 pub mod Elements
 pub mod Examples
+pub mod Shown

@@ -5,7 +5,7 @@ use Rattle.std.specs.Keys.{rank}
 use Rattle.std.specs.Orderings.{thenBy}
 use Rattle.std.specs.declared.cmp.Ordering.{Ordering}
 use Rattle.std.specs.declared.result.Result.{Result}
-use Rattle.std.specs.declared.result.Result.the-variants.{Ok, Err}
+use Rattle.std.specs.declared.result.Result.the-variants.{Ok}
 use Rattle.refusals.specs.declared.Fault.{Fault}
 use Rattle.codes.specs.Codes.{readTechnique, techniqueLetter}
 use Rattle.codes.specs.declared.letters.Technique.the-variants.{Combined}

@@ -27,7 +27,6 @@ use Rattle.records.specs.declared.keys.SolutionKey.{SolutionKey}
 use Rattle.records.specs.declared.parameters.ParameterKey.{ParameterKey}
 use Rattle.records.specs.declared.parameters.Parameter.{Parameter}
 use Rattle.records.specs.declared.sites.Site.{Site}
-use Rattle.records.specs.declared.spans.SpanKey.{SpanKey}
 use Rattle.records.specs.declared.spans.Span.{Span}
 
 -- what is given, if it is given, has P

@@ -3,6 +3,7 @@ ghost use mathlib.Core.Path.{_≡_};
 ghost use Rattle.records.specs.Elements.{CellsComeBack, MatrixLinesAreValid};
 ghost use Rattle.records.specs.Examples.{LinesOfTheGate};
 ghost use Rattle.records.specs.Laws.{KeysAreOrdered};
+ghost use Rattle.records.specs.Shown.{LinesAreShown};
 ghost use Rattle.records.specs.Valid.{SitesAreValid, SpansAreValid, ParametersAreValid, HeadersAreValid};
 ghost use Rattle.records.specs.Valid.{SitesAreNamed, SpansAreNamed, ParametersAreNamed, SitesComeBack, SpansComeBack, ParametersComeBack, HeadersComeBack};
 
@@ -40,6 +41,13 @@ pub fn records_come_back() -> u8
     ensures parameters { λ _. ⌜ ParametersComeBack ⌝ }
     ensures headers { λ _. ⌜ HeadersComeBack ⌝ }
     ensures cells { λ _. ⌜ CellsComeBack ⌝ }
+{
+    0
+}
+
+// What is written of a valid record can be printed.
+pub fn lines_can_be_printed() -> u8
+    ensures { λ _. ⌜ LinesAreShown ⌝ }
 {
     0
 }
