@@ -25,29 +25,36 @@ at-among d (x ∷ xs) e m = ⊎-elim (λ (p : e ≡ x). (0, omega arith, sym p))
 
 abbrev pub pairing-refl : {R : Type 0} (xs : List R) → Pairing xs xs
 pairing-refl xs = record {
-    to = λ i. i; back = λ i. i;
-    into = λ i h. h; onto = λ j h. h;
-    back-to = λ i h. refl; to-back = λ j h. refl;
-    keeps = λ d i h. refl
-  }
+  to = λ i. i;
+  back = λ i. i;
+  into = λ i h. h;
+  onto = λ j h. h;
+  back-to = λ i h. refl;
+  to-back = λ j h. refl;
+  keeps = λ d i h. refl;
+}
 
 abbrev pub pairing-sym : {R : Type 0} (xs ys : List R) → Pairing xs ys → Pairing ys xs
 pairing-sym xs ys p = record {
-    to = p .back; back = p .to;
-    into = p .onto; onto = p .into;
-    back-to = p .to-back; to-back = p .back-to;
-    keeps = λ d j h. sym (p .keeps d (p .back j) (p .onto j h)) ∙ ap (λ (k : ℕ). getD ys k d) (p .to-back j h)
-  }
+  to = p .back;
+  back = p .to;
+  into = p .onto;
+  onto = p .into;
+  back-to = p .to-back;
+  to-back = p .back-to;
+  keeps = λ d j h. sym (p .keeps d (p .back j) (p .onto j h)) ∙ ap (λ (k : ℕ). getD ys k d) (p .to-back j h);
+}
 
 abbrev pub pairing-trans : {R : Type 0} (xs ys zs : List R) → Pairing xs ys → Pairing ys zs → Pairing xs zs
 pairing-trans xs ys zs p q = record {
-    to = λ i. q .to (p .to i); back = λ i. p .back (q .back i);
-    into = λ i h. q .into (p .to i) (p .into i h);
-    onto = λ j h. p .onto (q .back j) (q .onto j h);
-    back-to = λ i h. ap (p .back) (q .back-to (p .to i) (p .into i h)) ∙ p .back-to i h;
-    to-back = λ j h. ap (q .to) (p .to-back (q .back j) (q .onto j h)) ∙ q .to-back j h;
-    keeps = λ d i h. q .keeps d (p .to i) (p .into i h) ∙ p .keeps d i h
-  }
+  to = λ i. q .to (p .to i);
+  back = λ i. p .back (q .back i);
+  into = λ i h. q .into (p .to i) (p .into i h);
+  onto = λ j h. p .onto (q .back j) (q .onto j h);
+  back-to = λ i h. ap (p .back) (q .back-to (p .to i) (p .into i h)) ∙ p .back-to i h;
+  to-back = λ j h. ap (q .to) (p .to-back (q .back j) (q .onto j h)) ∙ q .to-back j h;
+  keeps = λ d i h. q .keeps d (p .to i) (p .into i h) ∙ p .keeps d i h;
+}
 
 -- a pairing pairs what is among the lists
 paired-among : {R : Type 0} (xs ys : List R) → Pairing xs ys → (e : R) → Among e xs → Among e ys

@@ -22,37 +22,37 @@ use native.Mathlib.Omega.{arith}
 
 same-refl : (a : Solution) → Same a a
 same-refl a = record {
-    head = refl;
-    sites = pairing-refl (a .sites);
-    spans = pairing-refl (a .spans);
-    aprioris = pairing-refl (a .aprioris);
-    estimates = pairing-refl (a .estimates);
-    cells = λ i j h k. refl
-  }
+  head = refl;
+  sites = pairing-refl (a .sites);
+  spans = pairing-refl (a .spans);
+  aprioris = pairing-refl (a .aprioris);
+  estimates = pairing-refl (a .estimates);
+  cells = λ i j h k. refl;
+}
 
 same-sym : (a b : Solution) → Same a b → Same b a
 same-sym a b s = record {
-    head = sym (s .head);
-    sites = pairing-sym _ _ (s .sites);
-    spans = pairing-sym _ _ (s .spans);
-    aprioris = pairing-sym _ _ (s .aprioris);
-    estimates = pairing-sym _ _ (s .estimates);
-    cells = λ i j h k.
+  head = sym (s .head);
+  sites = pairing-sym _ _ (s .sites);
+  spans = pairing-sym _ _ (s .spans);
+  aprioris = pairing-sym _ _ (s .aprioris);
+  estimates = pairing-sym _ _ (s .estimates);
+  cells = λ i j h k.
       let p = s .estimates in
-      sym (s .cells (p .back i) (p .back j) (p .onto i h) (p .onto j k)) ∙ ap₂ (cellOf b) (p .to-back i h) (p .to-back j k)
-  }
+      sym (s .cells (p .back i) (p .back j) (p .onto i h) (p .onto j k)) ∙ ap₂ (cellOf b) (p .to-back i h) (p .to-back j k);
+}
 
 same-trans : (a b c : Solution) → Same a b → Same b c → Same a c
 same-trans a b c s t = record {
-    head = s .head ∙ t .head;
-    sites = pairing-trans _ _ _ (s .sites) (t .sites);
-    spans = pairing-trans _ _ _ (s .spans) (t .spans);
-    aprioris = pairing-trans _ _ _ (s .aprioris) (t .aprioris);
-    estimates = pairing-trans _ _ _ (s .estimates) (t .estimates);
-    cells = λ i j h k.
+  head = s .head ∙ t .head;
+  sites = pairing-trans _ _ _ (s .sites) (t .sites);
+  spans = pairing-trans _ _ _ (s .spans) (t .spans);
+  aprioris = pairing-trans _ _ _ (s .aprioris) (t .aprioris);
+  estimates = pairing-trans _ _ _ (s .estimates) (t .estimates);
+  cells = λ i j h k.
       let p = s .estimates in
-      t .cells (p .to i) (p .to j) (p .into i h) (p .into j k) ∙ s .cells i j h k
-  }
+      t .cells (p .to i) (p .to j) (p .into i h) (p .into j k) ∙ s .cells i j h k;
+}
 
 pub same-equivalence : SameIsEquivalence
 same-equivalence = record { reflexive = same-refl; symmetric = same-sym; transitive = same-trans }
@@ -68,12 +68,13 @@ same-cells a b ka kb p s =
     let t : tri n ≡ tri (length (b .estimates)) = ap tri m in
     let places = paired-places parameterOrder parameter-order (a .estimates) (b .estimates) (ka .estimates) p (s .estimates) in
     pinned zeroNumber (a .cells) (b .cells) (ka .whole ∙ (t ∙ sym (kb .whole))) (λ i j.
-      elim (cases-lt (max i j) n) [
-        inl h ↦
+    elim (cases-lt (max i j) n) [
+      | inl h ↦
           let hi : i < n = omega arith in
           let hj : j < n = omega arith in
           sym (sym (ap₂ (cellOf b) (places i hi) (places j hj)) ∙ s .cells i j hi hj)
-      | inr h ↦ cell-past (a .cells) n i j (ka .whole) h ∙ sym (cell-past (b .cells) n i j (kb .whole ∙ sym t) h) ])
+      | inr h ↦ cell-past (a .cells) n i j (ka .whole) h ∙ sym (cell-past (b .cells) n i j (kb .whole ∙ sym t) h)
+    ])
 
 same-equal : (a b : Solution) → Ordered a → Ordered b → Same a b → a ≡ b
 same-equal a b ka kb s =
