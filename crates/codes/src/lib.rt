@@ -1,4 +1,6 @@
 // Texts and codes: what a line names things by.
+#![tactic(auto)]
+
 pub mod laws;
 pub mod letters;
 pub mod orders;

@@ -1,4 +1,6 @@
 // The fair copy: the one form in which a solution is written.
+#![tactic(auto)]
+
 pub mod copy;
 pub mod lengths;
 pub mod letters;

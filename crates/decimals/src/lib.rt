@@ -1,4 +1,6 @@
 // Decimal numbers as text: read, kept in one form, and written.
+#![tactic(auto)]
+
 pub mod laws;
 pub mod number;
 pub mod numerals;

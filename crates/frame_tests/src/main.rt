@@ -3,6 +3,8 @@
 // A line `# name` begins a case whose frame is reported, a line `## name` one whose header is reported too. The lines after it
 // are its content, but for two signs: a line `@` stands for the five
 // blocks that every file has, each with no line in it, and a backslash at the end of a line takes away the byte 10 after it.
+#![tactic(auto)]
+
 use media::bytes::Bytes;
 use reports::files::file_report;
 use reports::frames::frame_report;

@@ -1,5 +1,7 @@
 // Where the register reads bytes from and writes them to: the traits of sources and media, three that implement them, and
 // writing that goes for every medium.
+#![tactic(auto)]
+
 pub mod blocks;
 pub mod bytes;
 pub mod row;

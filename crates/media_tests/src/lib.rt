@@ -1,4 +1,6 @@
 // The media on examples: filled, refused at their capacity, opened again, and made over bytes of any kind.
+#![tactic(auto)]
+
 #[cfg(test)]
 mod tests {
     use media::blocks::Blocks;

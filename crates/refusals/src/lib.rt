@@ -1,4 +1,6 @@
 // Why the register refuses: the numbered faults, and a fault with the line that it is found in.
+#![tactic(auto)]
+
 ghost use Rattle.std.specs.Prelude.{◌≡◌};
 ghost use Rattle.refusals.specs.Numbers.{number_of};
 

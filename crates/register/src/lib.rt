@@ -1,4 +1,6 @@
 // The register of one station solution: its tables, which the caller lends at each call, and its edits.
+#![tactic(auto)]
+
 pub mod calls;
 mod cells;
 mod edits;

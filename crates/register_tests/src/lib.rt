@@ -1,4 +1,6 @@
 // The register on small tables, by worksheets: full tables, tables of other lengths, and worksheets that are not understood.
+#![tactic(auto)]
+
 #[cfg(test)]
 mod tests {
     use decimals::number::Number;

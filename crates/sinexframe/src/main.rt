@@ -1,5 +1,7 @@
 // Checks the frame and the header of a SINEX file: reads the file on standard input, and prints its header and its blocks, or
 // the first fault.
+#![tactic(auto)]
+
 use frame::walk::LONGEST;
 use media::bytes::Bytes;
 use reports::files::file_report;

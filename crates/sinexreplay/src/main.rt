@@ -1,5 +1,7 @@
 // Replays a worksheet of edits: reads it on standard input, performs its commands on a new register with the largest tables that
 // a register may have, and prints the answers and what the register then holds.
+#![tactic(auto)]
+
 use decimals::number::Number;
 use frame::walk::LONGEST;
 use records::parameters::Parameter;

@@ -1,5 +1,7 @@
 // Times the storage: inserts in random order into an ordered table, and ranks opened and closed in a full triangle.
 // Its arguments are `inserts` or `ranks`, how many, and how often. It prints a sum over what it made, and the time to standard error.
+#![tactic(auto)]
+
 ghost use Rattle.std.specs.Prelude.{◌≡◌, true, eqb};
 ghost use Rattle.storagebench.specs.Samples.{row_order, bare_row, zero_value, is_zero};
 ghost use Rattle.tables.proofs.Orders.{by_key, rank_order};

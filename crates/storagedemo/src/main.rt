@@ -1,5 +1,7 @@
 // Replays a small worksheet on an ordered table with its matrix, and on a second table of another kind of record,
 // and prints what they hold after each step.
+#![tactic(auto)]
+
 mod records;
 mod sheet;
 
