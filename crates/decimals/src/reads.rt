@@ -80,7 +80,7 @@ fn fit(negative: bool, all: u128, place: u128, exponent: i32) -> Result<Number, 
 // The power of ten of the first of `digits` digits, the last of which stands for 10^power.
 fn first_power(power: i32, digits: u32) -> i32
     requires digits_bound { digits ≤ 21 }
-    requires negsuc_bound { (negsuc 200 ≤ℤ power) × (power ≤ℤ pos 200) }
+    requires power_range { (negsuc 200 ≤ℤ power) × (power ≤ℤ pos 200) }
     ensures { result ≡ (power +ℤ pos digits) -ℤ pos 1 }
 {
     power + digits as i32 - 1
@@ -90,7 +90,7 @@ fn first_power(power: i32, digits: u32) -> i32
 fn scale(negative: bool, value: u128, power: i32, unit: u128) -> Result<Number, Fault>
     requires value_bound { value < 10 ^ 21 }
     requires unit_bound { unit ≤ 10 ^ 15 }
-    requires negsuc_bound { (negsuc 200 ≤ℤ power) × (power ≤ℤ pos 200) }
+    requires power_range { (negsuc 200 ≤ℤ power) × (power ≤ℤ pos 200) }
     ensures { result ≡ scaled unit (record { negative = negative; value = value; power = power }) }
 {
     if value == 0 {
@@ -112,7 +112,7 @@ fn scale(negative: bool, value: u128, power: i32, unit: u128) -> Result<Number, 
 // The power of ten of the last digit, with `places` digits after the point.
 fn last_power(exponent: i32, places: usize) -> i32
     requires places_bound { places ≤ 21 }
-    requires negsuc_bound { (negsuc 98 ≤ℤ exponent) × (exponent ≤ℤ pos 99) }
+    requires exponent_range { (negsuc 98 ≤ℤ exponent) × (exponent ≤ℤ pos 99) }
     ensures { result ≡ exponent -ℤ pos places }
 {
     exponent - places as i32

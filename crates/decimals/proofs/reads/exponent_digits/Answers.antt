@@ -10,11 +10,11 @@ use Rattle.decimals.proofs.reads.exponent_digits.Goals as goal
 pub digits-run-requires : goal.digits-run-requires
 digits-run-requires c = omega (arith, ten_mono (length c.args.s.now) 21 c.requires)
 
-pub overflow-cast-n : goal.overflow-cast-n
-overflow-cast-n c = omega (arith, ints, two_digits c.args.s.now (omega arith))
+pub overflow_cast-n : goal.overflow_cast-n
+overflow_cast-n c = omega (arith, ints, two_digits c.args.s.now (omega arith))
 
-pub overflow-sub-result : goal.overflow-sub-result
-overflow-sub-result c = omega (arith, ints, two_digits c.args.s.now (omega arith))
+pub overflow_sub-result : goal.overflow_sub-result
+overflow_sub-result c = omega (arith, ints, two_digits c.args.s.now (omega arith))
 
 pub returns-then-negative : goal.returns-then-negative
 returns-then-negative c =

@@ -9,4 +9,4 @@ returns-then-c-eq101 c =
     let h : 0 < length u = grind (arith, nat_tests) in
     let e : (get_or u 0 0 ≡ 69) ⊎ (get_or u 0 0 ≡ 101) = ⊎_elim (λ a. inl a) (λ b. inr b.1) c.if-c-eq101.either in
     let l = letter_yes u h e in
-    record { value = cc; small = c.exponent-digits.ensures.small }
+    record { value = cc; small = c.exponent_digits.ensures.small }

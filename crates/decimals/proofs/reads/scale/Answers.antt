@@ -16,19 +16,19 @@ returns-then-value-eq0 c = sym (scaled_zero c.args.unit (record { negative = c.a
 pub returns : goal.returns
 returns c =
     let s : Said = record { negative = c.args.negative; value = c.args.value; power = c.args.power } in
-    let n = c.size-of-size.result.count in
+    let n = c.size_of-size.result.count in
     let p = c.args.power in
-    let a : negsuc 200 ≤ℤ p = c.requires.2.0 in
-    let b : p ≤ℤ pos 200 = c.requires.2.1 in
-    let t : to_z w32 (of_z w32 c.first-power.result) ≡ (p +ℤ pos n) -ℤ pos 1 = omega (arith, ints, c.first-power.ensures, c.size-of-size.ensures.small) in
-    let e : to_z w32 (of_z w32 c.first-power.result) ≡ top_of s = t ∙ ap (λ k. (p +ℤ pos k) -ℤ pos 1) c.size-of-size.ensures.count in
+    let a : negsuc 200 ≤ℤ p = c.requires.power_range.0 in
+    let b : p ≤ℤ pos 200 = c.requires.power_range.1 in
+    let t : to_z w32 (of_z w32 c.first_power.result) ≡ (p +ℤ pos n) -ℤ pos 1 = omega (arith, ints, c.first_power.ensures, c.size_of-size.ensures.small) in
+    let e : to_z w32 (of_z w32 c.first_power.result) ≡ top_of s = t ∙ ap (λ k. (p +ℤ pos k) -ℤ pos 1) c.size_of-size.ensures.count in
     c.fit.ensures
-    ∙ (ap (fitted c.args.negative (c.args.value * c.args.unit) c.size-of-size.result.unit) e
-    ∙ (ap (λ u. fitted c.args.negative (c.args.value * c.args.unit) u (top_of s)) c.size-of-size.ensures.unit
+    ∙ (ap (fitted c.args.negative (c.args.value * c.args.unit) c.size_of-size.result.unit) e
+    ∙ (ap (λ u. fitted c.args.negative (c.args.value * c.args.unit) u (top_of s)) c.size_of-size.ensures.unit
     ∙ sym (scaled_fits c.args.unit s c.if-value-eq0.false)))
 
-pub overflow-mul-value : goal.overflow-mul-value
-overflow-mul-value c = omega (arith, mul-le c.args.value c.args.unit (10 ^ 21) (10 ^ 15) (omega arith) (omega arith))
+pub overflow_mul-value : goal.overflow_mul-value
+overflow_mul-value c = omega (arith, mul-le c.args.value c.args.unit (10 ^ 21) (10 ^ 15) (omega arith) (omega arith))
 
 pub fit-requires : goal.fit-requires
-fit-requires c = (omega (arith, c.size-of-size.ensures.above), omega (arith, quotient c.args.value c.args.unit c.size-of-size.result.unit c.size-of-size.ensures.above))
+fit-requires c = (omega (arith, c.size_of-size.ensures.above), omega (arith, quotient c.args.value c.args.unit c.size_of-size.result.unit c.size_of-size.ensures.above))

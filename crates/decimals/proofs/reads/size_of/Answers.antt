@@ -4,8 +4,8 @@ use Rattle.decimals.proofs.Powers.{ten_more}
 use Rattle.decimals.proofs.Sizes.{size_ge, size_le, size_above}
 use Rattle.decimals.proofs.reads.size_of.Goals as goal
 
-pub overflow-add-count : goal.overflow-add-count
-overflow-add-count c = omega (arith, size_le c.args.value 21 c.requires)
+pub overflow_add-count : goal.overflow_add-count
+overflow_add-count c = omega (arith, size_le c.args.value 21 c.requires)
 
 pub loop-unit-smaller : goal.loop-unit-smaller
 loop-unit-smaller c = omega (arith, size_ge c.args.value c.loop-unit.count (omega arith))

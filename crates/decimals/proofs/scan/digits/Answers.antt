@@ -6,11 +6,11 @@ use Rattle.decimals.proofs.Fronts.{digit_yes, digit_low, digit_high, digits_from
 use Rattle.decimals.proofs.scan.digits.Goals as goal
 use Rattle.decimals.proofs.scan.digits.Goals.{then-loop-i-test+then-s-i-ge48+else-s-i-le57, then-loop-i-test+else-s-i-ge48, else-loop-i-test}
 
-pub overflow-mul-value : goal.overflow-mul-value
-overflow-mul-value c = omega (arith, room c.loop-i.value (length c.args.s.now - c.loop-i.i) (2 ^ 127) (omega arith) (le_trans c.loop-i.invariant.4 c.requires))
+pub overflow_mul-value : goal.overflow_mul-value
+overflow_mul-value c = omega (arith, room c.loop-i.value (length c.args.s.now - c.loop-i.i) (2 ^ 127) (omega arith) (le_trans c.loop-i.invariant.4 c.requires))
 
-pub overflow-add-value : goal.overflow-add-value
-overflow-add-value c = omega (arith, room c.loop-i.value (length c.args.s.now - c.loop-i.i) (2 ^ 127) (omega arith) (le_trans c.loop-i.invariant.4 c.requires))
+pub overflow_add-value : goal.overflow_add-value
+overflow_add-value c = omega (arith, room c.loop-i.value (length c.args.s.now - c.loop-i.i) (2 ^ 127) (omega arith) (le_trans c.loop-i.invariant.4 c.requires))
 
 pub loop-i-preserved : goal.loop-i-preserved
 loop-i-preserved c =

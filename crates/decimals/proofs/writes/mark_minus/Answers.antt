@@ -6,10 +6,10 @@ use Rattle.decimals.proofs.Runs.{marked_more, marked_stop}
 use Rattle.decimals.proofs.writes.mark_minus.Goals as goal
 use Rattle.decimals.proofs.writes.mark_minus.Goals.{then-loop-i-test+else-out-i-eq32, else-loop-i-test}
 
-pub returns-then-is-empty : goal.returns-then-is-empty
-returns-then-is-empty c =
+pub returns-then-is_empty : goal.returns-then-is_empty
+returns-then-is_empty c =
     let xs = c.args.out.now in
-    let e : xs ≡ [] = nil_from_length xs (eqb-true (length xs) 0 (sym c.is-empty.ensures ∙ c.if-is-empty.true)) in
+    let e : xs ≡ [] = nil_from_length xs (eqb-true (length xs) 0 (sym c.is_empty.ensures ∙ c.if-is_empty.true)) in
     e ∙ sym (ap marked e)
 
 pub loop-i-preserved : goal.loop-i-preserved
