@@ -3,4 +3,4 @@ use Rattle.tables.proofs.Shifts.{insert_part}
 use Rattle.tables.proofs.table.insert.Goals as goal
 
 pub returns : goal.returns
-returns g c = insert_part c.args.rows.now c.shift-up.new.part c.args.k c.args.used c.args.r (omega arith) (omega arith) c.shift-up.ensures
+returns g c = insert_part c.args.rows.now c.shift_up.new.part c.args.k c.args.used c.args.r (omega arith) (omega arith) c.shift_up.ensures

@@ -5,5 +5,5 @@ use Rattle.tables.proofs.table.remove.Goals as goal
 
 pub returns : goal.returns
 returns g c =
-    remove_part c.args.rows.now c.shift-down.new.part c.args.k c.args.used c.blank.result (omega arith) (omega arith) c.shift-down.ensures
+    remove_part c.args.rows.now c.shift_down.new.part c.args.k c.args.used c.blank.result (omega arith) (omega arith) c.shift_down.ensures
     ∙ ap (λ b. remove (take c.args.used c.args.rows.now) c.args.k ++ (b ∷ drop c.args.used c.args.rows.now)) c.blank.ensures
