@@ -8,14 +8,14 @@ use Rattle.triangle.proofs.moves.lift.Goals as goal
 pub loop-i-init : goal.loop-i-init
 loop-i-init g c = (omega arith, λ a b h. grind (arith, nat_tests))
 
-pub lift-row-requires : goal.lift-row-requires
-lift-row-requires g c = let k = tri_le (suc (suc (c.loop-i.i - 1))) (suc c.args.n) (omega arith) in omega arith
+pub lift_row-requires : goal.lift_row-requires
+lift_row-requires g c = let k = tri_le (suc (suc (c.loop-i.i - 1))) (suc c.args.n) (omega arith) in omega arith
 
 pub loop-i-preserved : goal.loop-i-preserved
 loop-i-preserved g c = (
   omega arith,
-  lifts_step (low g.T.Cell.nought c.args.cells.now) (low g.T.Cell.nought c.loop-i.cells) (low g.T.Cell.nought c.lift-row.new.cells)
-      c.args.n c.loop-i.i c.args.r c.loop-i-test.true (omega arith) c.loop-i.invariant.1 c.lift-row.ensures,
+  lifts_step (low g.T.Cell.nought c.args.cells.now) (low g.T.Cell.nought c.loop-i.cells) (low g.T.Cell.nought c.lift_row.new.cells)
+      c.args.n c.loop-i.i c.args.r c.loop-i-test.true (omega arith) c.loop-i.invariant.1 c.lift_row.ensures,
 )
 
 pub returns : goal.returns

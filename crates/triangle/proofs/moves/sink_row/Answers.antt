@@ -5,6 +5,6 @@ use Rattle.triangle.proofs.moves.sink_row.Goals as goal
 pub returns : goal.returns
 returns g c =
     let z = g.T.Cell.nought in
-    sink_runs (λ k. get_or c.args.cells.now k z) (λ k. get_or c.copy-run.new.cells k z) (λ k. get_or c.copy-run-2.new.cells k z)
+    sink_runs (λ k. get_or c.args.cells.now k z) (λ k. get_or c.copy_run.new.cells k z) (λ k. get_or c.copy_run-2.new.cells k z)
     c.args.i c.args.r (c.rows-to.result + c.args.i + 1) c.rows-to.result c.rows-to.ensures.count refl (omega arith)
-    c.copy-run.ensures c.copy-run-2.ensures
+    c.copy_run.ensures c.copy_run-2.ensures

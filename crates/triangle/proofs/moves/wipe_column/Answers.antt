@@ -9,8 +9,8 @@ use Rattle.triangle.proofs.moves.wipe_column.Given as given
 within : (g : given.Over) (c : goal.After-rows g) → c.rows.result + c.args.r < length c.loop-k.cells
 within g c = omega (arith, low_below c.loop-k.k c.args.r (suc c.args.n) (omega arith) (omega arith))
 
-pub offset-bounds-cells-rows : goal.offset-bounds-cells-rows
-offset-bounds-cells-rows g c = let h = within g c in search rules
+pub offset_bounds-cells-rows : goal.offset_bounds-cells-rows
+offset_bounds-cells-rows g c = let h = within g c in search rules
 
 pub bounds-cells-rows : goal.bounds-cells-rows
 bounds-cells-rows g c = within g c

@@ -13,7 +13,7 @@ loop-i-preserved g c =
     let i = c.loop-i.i in
     let x = c.index-records-i.result in
     let rank = rank_in order used rows in
-    let w = c.if-not-write-rank.ensures in (
+    let w = c.if-not-write_rank.ensures in (
       w.row
           ∙ ap (λ t. set t i (rank x)) c.loop-i.invariant.0
           ∙ fill_more rank rs c.args.row.now i x (omega arith) (omega arith) c.index-records-i.is,
@@ -22,15 +22,15 @@ loop-i-preserved g c =
           ∙ c.loop-i.invariant.1,
     )
 
-pub returns-then-not-write-rank : goal.returns-then-not-write-rank
-returns-then-not-write-rank g c =
+pub returns-then-not-write_rank : goal.returns-then-not-write_rank
+returns-then-not-write_rank g c =
     let order = g.R.Record.order in
     let used = c.args.used in
     let rows = c.args.rows.now in
     let rs = c.args.records.now in
     let i = c.loop-i.i in
     let x = c.index-records-i.result in
-    let w = c.if-not-write-rank.ensures in
+    let w = c.if-not-write_rank.ensures in
     let none : all_known order used rows rs ≡ false =
     sym c.loop-i.invariant.1
     ∙ known_more order used rows rs i x (omega arith) c.index-records-i.is
@@ -38,7 +38,7 @@ returns-then-not-write-rank g c =
     let d = filled_none order used rows rs c.args.row.now (omega arith) (omega arith) none in
     record {
       answer = d.0;
-      row = c.clear-row.ensures ∙ ap (λ n. replicate n 0) (c.write-rank.auto.row ∙ c.loop-i.auto.row) ∙ d.1;
+      row = c.clear_row.ensures ∙ ap (λ n. replicate n 0) (c.write_rank.auto.row ∙ c.loop-i.auto.row) ∙ d.1;
     }
 
 pub returns : goal.returns

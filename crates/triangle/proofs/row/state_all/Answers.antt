@@ -20,7 +20,7 @@ loop-k-preserved g c =
     let t = c.in-Ok.ensures in
     let ok : sound void ρ count side (length c.loop-k.cells) f x ≡ true = ok_true _ WrongCell c.in-Ok.field-0 t.answer in
     left_more void ρ count side (length c.args.cells.now) (cell g.T.Cell.nought c.args.cells.now) c.args.elements.now
-    f (cell g.T.Cell.nought c.state-cell.new.cells) c.loop-k.k x c.loop-k-test.true c.index-elements-k.is
+    f (cell g.T.Cell.nought c.state_cell.new.cells) c.loop-k.k x c.loop-k-test.true c.index-elements-k.is
     (ap (λ n. sound void ρ count side n f x) (sym c.loop-k.auto.cells) ∙ ok)
     (λ a b. t.matrix a b ∙ cond-true _ _ _ ok) c.loop-k.invariant
 

@@ -14,11 +14,11 @@ returns g c =
     let f = cell g.T.Cell.nought xs in
     let i = rank_of ρ e.row in
     let j = rank_of ρ e.column in
-    let nz = c.if-is-zero.ensures in
-    let fr = c.if-not-is-free.ensures in
+    let nz = c.if-is_zero.ensures in
+    let fr = c.if-not-is_free.ensures in
     let s = free_seen void ρ c.args.count c.args.side (length xs) f e fr in
     let ok = free-sound void ρ c.args.count c.args.side (length xs) f e fr in
-    let done = c.set-cell.ensures in
+    let done = c.set_cell.ensures in
     record {
       answer = done.answer ∙ cond-true _ _ _ s ∙ sym (cond-true _ _ _ ok);
       list = done.list ∙ cond-true _ _ _ s ∙ sym (cond-true _ _ _ (free_new void ρ c.args.count c.args.side (length xs) f e nz fr));
