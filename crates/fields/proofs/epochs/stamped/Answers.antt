@@ -5,8 +5,8 @@ use Rattle.fields.proofs.epochs.stamped.Goals as goal
 
 pub returns : goal.returns
 returns c =
-    let s = c.put-digits.new.out in
-    let d = c.put-digits-2.new.out in
-    ap (λ x. x ++ (58 ∷ (d ++ (58 ∷ (s ++ []))))) c.put-digits-3.ensures
-    ∙ (ap (λ x. fixed 2 c.args.y ++ (58 ∷ (x ++ (58 ∷ (s ++ []))))) c.put-digits-2.ensures
-    ∙ ap (λ x. fixed 2 c.args.y ++ (58 ∷ (fixed 3 c.args.d ++ (58 ∷ x)))) (append-nil s ∙ c.put-digits.ensures))
+    let s = c.put_digits.new.out in
+    let d = c.put_digits-2.new.out in
+    ap (λ x. x ++ (58 ∷ (d ++ (58 ∷ (s ++ []))))) c.put_digits-3.ensures
+    ∙ (ap (λ x. fixed 2 c.args.y ++ (58 ∷ (x ++ (58 ∷ (s ++ []))))) c.put_digits-2.ensures
+    ∙ ap (λ x. fixed 2 c.args.y ++ (58 ∷ (fixed 3 c.args.d ++ (58 ∷ x)))) (append-nil s ∙ c.put_digits.ensures))
