@@ -5,5 +5,5 @@ use Rattle.headings.proofs.Parts.{same-joined}
 use Rattle.headings.proofs.elements.write_matrix_line.Goals as goal
 
 pub returns : goal.returns
-returns c = same-joined (blanks 1 ∷ c.copy-from-slice-2.new.self ∷ c.copy-from-slice.new.self ∷ []) (matrix_parts c.args.row c.args.column c.args.value.now)
-    (refl, (c.copy-from-slice-2.ensures.after ∙ c.write-place.ensures, (c.copy-from-slice.ensures.after ∙ c.write-single.ensures, tt)))
+returns c = same-joined (blanks 1 ∷ c.copy_from_slice-2.new.self ∷ c.copy_from_slice.new.self ∷ []) (matrix_parts c.args.row c.args.column c.args.value.now)
+    (refl, (c.copy_from_slice-2.ensures.after ∙ c.write_place.ensures, (c.copy_from_slice.ensures.after ∙ c.write_single.ensures, tt)))

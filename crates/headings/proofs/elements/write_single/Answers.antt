@@ -5,5 +5,5 @@ use Rattle.headings.proofs.Parts.{same-joined}
 use Rattle.headings.proofs.elements.write_single.Goals as goal
 
 pub returns : goal.returns
-returns c = same-joined (blanks 1 ∷ c.copy-from-slice.new.self ∷ blanks 46 ∷ []) (single_parts c.args.value.now)
-    (refl, (c.copy-from-slice.ensures.after ∙ c.write-number.ensures, (refl, tt)))
+returns c = same-joined (blanks 1 ∷ c.copy_from_slice.new.self ∷ blanks 46 ∷ []) (single_parts c.args.value.now)
+    (refl, (c.copy_from_slice.ensures.after ∙ c.write_number.ensures, (refl, tt)))

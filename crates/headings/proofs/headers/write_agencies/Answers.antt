@@ -4,5 +4,5 @@ use Rattle.headings.proofs.Parts.{same-joined}
 use Rattle.headings.proofs.headers.write_agencies.Goals as goal
 
 pub returns : goal.returns
-returns c = same-joined (blanks 1 ∷ c.copy-from-slice-3.new.self ∷ blanks 1 ∷ c.copy-from-slice-2.new.self ∷ blanks 1 ∷ c.copy-from-slice.new.self ∷ []) (agencies_parts c.args.h.now)
-    (refl, (c.copy-from-slice-3.ensures.after, (refl, (c.copy-from-slice-2.ensures.after ∙ c.write-moment.ensures, (refl, (c.copy-from-slice.ensures.after, tt))))))
+returns c = same-joined (blanks 1 ∷ c.copy_from_slice-3.new.self ∷ blanks 1 ∷ c.copy_from_slice-2.new.self ∷ blanks 1 ∷ c.copy_from_slice.new.self ∷ []) (agencies_parts c.args.h.now)
+    (refl, (c.copy_from_slice-3.ensures.after, (refl, (c.copy_from_slice-2.ensures.after ∙ c.write_moment.ensures, (refl, (c.copy_from_slice.ensures.after, tt))))))
