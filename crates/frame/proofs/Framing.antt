@@ -4,7 +4,7 @@ use Rattle.frame.proofs.DataWalk.{lines-past}
 use Rattle.frame.proofs.Pads.{set-padded}
 use Rattle.frame.proofs.Titled.{apart_push, apart-few, has_apart}
 use Rattle.frame.specs.DataLines.{data_from, data_by, data_at}
-use Rattle.frame.specs.Frames.{all_taken, at, by_kind, by_stage, closed, continued, counted, ended, end_by_kind, end_by_stage, ended-blocks, first-place, footer, frame, framed, frame_of, has_title, header, inside, is_header, no_block, opened, opening, outside, begun, stepped, unread}
+use Rattle.frame.specs.Frames.{all_taken, at, by_kind, by_stage, closed, continued, counted, ended, end_by_kind, end_by_stage, ended_blocks, first_place, footer, frame, framed, frame_of, has_title, header, inside, is_header, no_block, opened, opening, outside, begun, stepped, unread}
 use Rattle.frame.specs.Headings.{begins, caption_of, heading_of, is_text}
 use Rattle.frame.specs.Lines.{fits, is_nil, kind_by, kind_of, line_of, lines, padded, passed}
 use Rattle.frame.specs.Rules.{All, Apart, Good, OfKind, Part, Right, remark, section, block_at, blocks_of, data_in, data_of, data_or, frame_as, passed_all, words, written}
@@ -57,7 +57,7 @@ record Holds (s : Stage) (f : Progress) (bs : List Block) : Type 0 where
   count : f.count ≡ length bs
   apart : Apart bs
 
-holds-ended : (s : Stage) (f : Progress) (bs : List Block) → Holds s f bs → ended-blocks f ≡ bs
+holds-ended : (s : Stage) (f : Progress) (bs : List Block) → Holds s f bs → ended_blocks f ≡ bs
 holds-ended s f bs k = (λ i. take (k.count i) (k.blocks i)) ∙ take_at bs _ (length bs) refl
 
 -- one line of a frame that is accepted
@@ -129,7 +129,7 @@ last_rest p f bs l g Start k h b e = tt
 last_rest p f bs l g Inside k h b e = absurd (no_result e)
 last_rest p f bs l g Outside k h b e =
     let t = tested (is_text footer (line_of l).columns) _ _ g e in
-    let u = tested (all_taken (ended-blocks f)) _ _ g t.1 in
+    let u = tested (all_taken (ended_blocks f)) _ _ g t.1 in
     let none : bs ≡ bs ++ [] = sym (append-nil bs) in
     let same : g ≡ frame_of p f = let x = u.1 in cc in
     record {
@@ -272,7 +272,7 @@ more_outside p f bs l ls g h Title q o b e next fr = go (caption_of (words l)) r
     go : (c : Option Caption) → caption_of (words l) ≡ c → opening p (passed p (length l)) f (heading_of (line_of l)) c ≡ Ok h → Rest p bs (l ∷ ls) g
     go None w e = absurd (no_result e)
     go (Some c) w e =
-        let t = denied (has_title c.title (ended-blocks f)) _ _ h e in
+        let t = denied (has_title c.title (ended_blocks f)) _ _ h e in
         let i : Progress = record { stage = Inside; heading = heading_of (line_of l); current = record { caption = c; start = p; body = passed p (length l); data_lines = 0; end = 0 }; blocks = f.blocks; count = f.count } in
         let same : i ≡ h = let x = t.1 in cc in
         rest-section p c bs l ls g q w b
@@ -530,24 +530,24 @@ passed_line : (p : Place) (xs : List (List ℕ)) → (passed_all p xs).line ≡ 
 passed_line p [] = sym (add-zero _)
 passed_line p (x ∷ xs) = let i = passed_line (passed p (length x)) xs in omega arith
 
-count-lines : (first last : List ℕ) (xs : List (List ℕ)) → (passed_all (passed first-place (length first)) xs).line ≡ length (first ∷ (xs ++ last ∷ []))
-count-lines first last xs = let i = passed_line (passed first-place (length first)) xs in let n = length-append xs (last ∷ []) in omega arith
+count-lines : (first last : List ℕ) (xs : List (List ℕ)) → (passed_all (passed first_place (length first)) xs).line ≡ length (first ∷ (xs ++ last ∷ []))
+count-lines first last xs = let i = passed_line (passed first_place (length first)) xs in let n = length-append xs (last ∷ []) in omega arith
 
 -- what is accepted is right
-right_from : (cs : List ℕ) (ls : List (List ℕ)) (f : Frame) → length cs ≤ 100000000 → lines cs ≡ ls → frame first-place unread ls ≡ Ok f → Right cs f
+right_from : (cs : List ℕ) (ls : List (List ℕ)) (f : Frame) → length cs ≤ 100000000 → lines cs ≡ ls → frame first_place unread ls ≡ Ok f → Right cs f
 unfolding frame
 right_from cs [] f s q e = absurd (no_result e)
-right_from cs (l ∷ []) f s q e = absurd (alone (kind_of (line_of l)) (frame_line first-place unread l [] f e).1)
+right_from cs (l ∷ []) f s q e = absurd (alone (kind_of (line_of l)) (frame_line first_place unread l [] f e).1)
   where
-    alone : (o : Option LineKind) → end_by_kind first-place unread (line_of l) o ≡ Ok f → ⊥
+    alone : (o : Option LineKind) → end_by_kind first_place unread (line_of l) o ≡ Ok f → ⊥
     alone None x = no_result x
     alone (Some k) x = cond_both (is_header (line_of l)) _ _ (λ r. r ≡ Ok f → ⊥) (λ _. no_result) (λ _. no_result) x
 right_from cs (l ∷ (m ∷ ms)) f s q e =
-    let t = frame_line first-place unread l (m ∷ ms) f e in
-    let u = went_on (stepped first-place unread (line_of l)) (λ h. frame (passed first-place (length l)) h (m ∷ ms)) f t.1 in
+    let t = frame_line first_place unread l (m ∷ ms) f e in
+    let u = went_on (stepped first_place unread (line_of l)) (λ h. frame (passed first_place (length l)) h (m ∷ ms)) f t.1 in
     let w = opens (kind_of (line_of l)) u.0 u.1 in
     let k = start-holds u.0 w.1 in
-    let r = sound (m ∷ ms) (passed first-place (length l)) f u.0 [] Outside k tt u.2 in
+    let r = sound (m ∷ ms) (passed first_place (length l)) f u.0 [] Outside k tt u.2 in
     record {
       small = s;
       fit = subst (All (λ x. fits x ≡ true)) (sym q) (t.0, r.fit);
@@ -560,12 +560,12 @@ right_from cs (l ∷ (m ∷ ms)) f s q e =
       ends = r.ends;
       apart = r.apart;
       taken = r.taken;
-      frame = r.frame ∙ ap (λ (n : ℕ). frame_as (blocks_of (passed first-place (length l)) r.parts) n)
+      frame = r.frame ∙ ap (λ (n : ℕ). frame_as (blocks_of (passed first_place (length l)) r.parts) n)
           (count-lines l r.last (flat_map written r.parts) ∙ sym (ap length (q ∙ ap (λ (x : List (List ℕ)). l ∷ x) r.whole)));
-      walks = data_walks cs r.parts (passed first-place (length l)) r.last (lines-past cs first-place l (m ∷ ms) q ∙ r.whole) (subst (All (λ x. fits x ≡ true)) r.whole r.fit) r.good;
+      walks = data_walks cs r.parts (passed first_place (length l)) r.last (lines-past cs first_place l (m ∷ ms) q ∙ r.whole) (subst (All (λ x. fits x ≡ true)) r.whole r.fit) r.good;
     }
   where
-    opens : (o : Option LineKind) (h : Progress) → by_kind first-place unread (line_of l) o ≡ Ok h → (is_header (line_of l) ≡ true) × (h ≡ begun unread)
+    opens : (o : Option LineKind) (h : Progress) → by_kind first_place unread (line_of l) o ≡ Ok h → (is_header (line_of l) ≡ true) × (h ≡ begun unread)
     opens None h x = absurd (no_result x)
     opens (Some k) h x = let y = tested (is_header (line_of l)) _ _ h x in (y.0, let z = y.1 in cc)
 
@@ -573,12 +573,12 @@ right_from cs (l ∷ (m ∷ ms)) f s q e =
 right_framed : (cs : List ℕ) (f : Frame) → Right cs f → framed cs ≡ Ok f
 right_framed cs f r =
     let rest = flat_map written r.parts ++ r.last ∷ [] in
-    let p = passed first-place (length r.first) in
+    let p = passed first_place (length r.first) in
     let fit = subst (All (λ x. fits x ≡ true)) r.whole r.fit in
-    let opens : stepped first-place unread (line_of r.first) ≡ Ok (begun unread) = stepped-at first-place unread (line_of r.first) Bound Start (header_kind r.first r.header) refl ∙ cond-true _ _ _ r.header in
+    let opens : stepped first_place unread (line_of r.first) ≡ Ok (begun unread) = stepped-at first_place unread (line_of r.first) Bound Start (header_kind r.first r.header) refl ∙ cond-true _ _ _ r.header in
     let go = complete r.parts p (begun unread) [] r.last (start-holds (begun unread) refl) fit.1 r.good r.ends r.apart r.taken in
     cond-false _ _ _ (le-ltb 100000000 (length cs) r.small)
-    ∙ (ap (frame first-place unread) r.whole ∙ (frame_on first-place unread (begun unread) r.first rest fit.0 (nil_append (flat_map written r.parts) (r.last ∷ []) refl) opens
+    ∙ (ap (frame first_place unread) r.whole ∙ (frame_on first_place unread (begun unread) r.first rest fit.0 (nil_append (flat_map written r.parts) (r.last ∷ []) refl) opens
     ∙ (go ∙ (ap (λ (n : ℕ). Ok (frame_as (blocks_of p r.parts) n)) (count-lines r.first r.last (flat_map written r.parts) ∙ sym (ap length r.whole)) ∙ ap Ok (sym r.frame)))))
 
 pub right_exactly : (cs : List ℕ) (f : Frame) → (framed cs ≡ Ok f → Right cs f) × (Right cs f → framed cs ≡ Ok f)

@@ -1,6 +1,6 @@
 -- No title twice: so the blocks never outnumber the titles.
 use Rattle.std.proofs.Common.{◌≡◌, ℕ, zero, suc, ◌+◌, ◌<◌, ◌≤◌, Bool, true, false, cond, ◌||◌, eqb, ◌≢◌, List, [], ◌∷◌, ◌++◌, length, get_or, take, drop, set, replicate, IfOk, Some, None, Ok, Err, Option, Result, sym, refl, ap, ◌∙◌, subst, inl, inr, arith, lit<}
-use Rattle.frame.specs.Frames.{has_title, ended-blocks, no_block, stepped, by_kind, by_stage, inside, outside, opening, opened, closed, counted, begun, is_header, unread, Spacious, SpaciousAt}
+use Rattle.frame.specs.Frames.{has_title, ended_blocks, no_block, stepped, by_kind, by_stage, inside, outside, opening, opened, closed, counted, begun, is_header, unread, Spacious, SpaciousAt}
 use Rattle.frame.specs.Headings.{caption_of, heading_of}
 use Rattle.frame.specs.Lines.{kind_of, passed}
 use Rattle.frame.specs.Rules.{Apart}
@@ -135,8 +135,8 @@ apart-few bs a = omega (arith, as_many bs a, trues_within (marks bs), length_mar
 pub record Orderly (f : Progress) : Type 0 where
   pub places : length f.blocks ≡ 26
   pub within : f.count ≤ 26
-  pub apart : Apart (ended-blocks f)
-  pub new : f.stage ≡ Inside → has_title f.current.caption.title (ended-blocks f) ≡ false
+  pub apart : Apart (ended_blocks f)
+  pub new : f.stage ≡ Inside → has_title f.current.caption.title (ended_blocks f) ≡ false
 
 -- where a block is open there is a place for it
 pub orderly_spacious : (f : Progress) → Orderly f → Spacious f
@@ -146,8 +146,8 @@ orderly_spacious f k = go f.stage refl
     go Start e = k.within
     go Outside e = k.within
     go Inside e =
-        let few = apart-few (f.current ∷ ended-blocks f) (k.new (sym e), k.apart) in
-        let l : length (ended-blocks f) ≡ f.count = let p = k.places in let w = k.within in length-take-le f.count f.blocks (omega arith) in
+        let few = apart-few (f.current ∷ ended_blocks f) (k.new (sym e), k.apart) in
+        let l : length (ended_blocks f) ≡ f.count = let p = k.places in let w = k.within in length-take-le f.count f.blocks (omega arith) in
         omega arith
 
 pub orderly_none : Orderly unread
@@ -166,19 +166,19 @@ not_inside s p q = let z : ◌≡◌ {A = ℕ} 0 1 = cc in omega arith
 opening-leaves : (p q : Place) (f : Progress) (h : Heading) (o : Option Caption) → Orderly f → Leaves f (opening p q f h o)
 opening-leaves p q f h None k = tt
 opening-leaves p q f h (Some c) k =
-    cond_both (has_title c.title (ended-blocks f)) _ _ (Leaves f) (λ _. tt)
+    cond_both (has_title c.title (ended_blocks f)) _ _ (Leaves f) (λ _. tt)
     (λ e. (record { places = k.places; within = k.within; apart = k.apart; new = λ _. e }, omega arith))
 
 closed-leaves : (p : Place) (f : Progress) (ln : Line) → Orderly f → f.stage ≡ Inside → Leaves f (closed p f ln)
 closed-leaves p f ln k s =
-    let few = apart-few (f.current ∷ ended-blocks f) (k.new s, k.apart) in
+    let few = apart-few (f.current ∷ ended_blocks f) (k.new s, k.apart) in
     let room : f.count < length f.blocks = let p = k.places in let w = k.within in let l = length-take-le f.count f.blocks (omega arith) in omega arith in
     cond_both (bytes_eq (heading_of ln).text f.heading.text) _ _ (Leaves f)
     (λ _. (
       record {
         places = length-set f.blocks f.count _ ∙ k.places;
         within = let p = k.places in omega arith;
-        apart = subst Apart (sym (take_more_set f.blocks f.count _ room)) (apart_push (ended-blocks f) _ k.apart (k.new s));
+        apart = subst Apart (sym (take_more_set f.blocks f.count _ room)) (apart_push (ended_blocks f) _ k.apart (k.new s));
         new = λ e. absurd (not_inside Outside refl e);
       },
       omega arith,

@@ -1,7 +1,7 @@
 -- The recursion over lines, and the walk over byte places.
 use Rattle.std.proofs.Common.{◌≡◌, ℕ, suc, ◌+◌, ◌-◌, ◌<◌, ◌≤◌, Bool, true, false, cond, eqb, ◌⊎◌, List, [], ◌∷◌, length, drop, Ok, Err, Result, sym, refl, ap, ◌∙◌, subst, inl, inr, add-one, arith}
 use Rattle.frame.proofs.Titled.{Orderly, orderly_none, stepped-leaves}
-use Rattle.frame.specs.Frames.{at, frame, framed, ended, stepped, continued, unread, first-place}
+use Rattle.frame.specs.Frames.{at, frame, framed, ended, stepped, continued, unread, first_place}
 use Rattle.frame.specs.Lines.{lines, glue, first_line, fits, line_of, fetched, passed, is_nil}
 use Rattle.frame.specs.declared.line.Fetched.{Fetched}
 use Rattle.frame.specs.declared.line.Fetched.TheVariants.{End as NoLine, Unfit, Fit}
@@ -130,7 +130,7 @@ pub record Going (cs : List ℕ) (p : Place) (f : Progress) : Type 0 where
   pub number : p.line ≤ p.byte + 1
   pub count : f.current.data_lines ≤ p.byte
   pub orderly : Orderly f
-  pub rest : frame p f (lines (drop p.byte cs)) ≡ frame first-place unread (lines cs)
+  pub rest : frame p f (lines (drop p.byte cs)) ≡ frame first_place unread (lines cs)
 
 pub within_more : (cs : List ℕ) (i : ℕ) → false ≡ is_nil (drop i cs) → i < length cs
 within_more cs i e = elim (cases_lt i (length cs)) [
@@ -155,7 +155,7 @@ going_more cs p q f g ln k e n s m =
     }
 
 -- before the first line
-pub going_none : (cs : List ℕ) → length cs ≤ 100000000 → Going cs first-place unread
+pub going_none : (cs : List ℕ) → length cs ≤ 100000000 → Going cs first_place unread
 going_none cs h = record { within = omega arith; small = h; number = omega arith; count = omega arith; orderly = orderly_none; rest = refl }
 
 -- what is left decides

@@ -36,13 +36,13 @@ has_title k [] = false
 has_title k (b ∷ bs) = place_of b.caption.title == place_of k || has_title k bs
 
 -- the blocks that are ended
-abbrev pub ended-blocks : Progress → List Block
-ended-blocks f = take f.count f.blocks
+abbrev pub ended_blocks : Progress → List Block
+ended_blocks f = take f.count f.blocks
 
 -- a block begins: its title has to be one of the format's, and no earlier block may have it
 abbrev pub opening : Place → Place → Progress → Heading → Option Caption → Result Progress Refusal
 opening p q f h None = Err (at WrongTitle p)
-opening p q f h (Some c) = cond (has_title c.title (ended-blocks f)) (Err (at TitleTwice p)) (Ok (record {
+opening p q f h (Some c) = cond (has_title c.title (ended_blocks f)) (Err (at TitleTwice p)) (Ok (record {
   stage = Inside;
   heading = h;
   current = record { caption = c; start = p; body = q; data_lines = 0; end = 0 };
@@ -136,7 +136,7 @@ frame_of p f = record { blocks = f.blocks; count = f.count; lines = p.line }
 abbrev pub end_by_stage : Place → Progress → Line → Stage → Result Frame Refusal
 end_by_stage p f ln Start = cond (is_header ln) (Err (at BrokenFrame p)) (Err (at NoHeaderLine p))
 end_by_stage p f ln Outside =
-    cond (is_text footer ln.columns) (cond (all_taken (ended-blocks f)) (Ok (frame_of p f)) (Err (at BlockMissing p))) (Err (at BrokenFrame p))
+    cond (is_text footer ln.columns) (cond (all_taken (ended_blocks f)) (Ok (frame_of p f)) (Err (at BlockMissing p))) (Err (at BrokenFrame p))
 end_by_stage p f ln Inside = Err (at BrokenFrame p)
 
 abbrev pub end_by_kind : Place → Progress → Line → Option LineKind → Result Frame Refusal
@@ -165,12 +165,12 @@ no_block = record { caption = record { title = FileReference; form = None }; sta
 abbrev pub unread : Progress
 unread = record { stage = Start; heading = headed []; current = no_block; blocks = replicate 26 no_block; count = 0 }
 
-abbrev pub first-place : Place
-first-place = record { byte = 0; line = 1 }
+abbrev pub first_place : Place
+first_place = record { byte = 0; line = 1 }
 
 -- the whole content
 abbrev pub framed : List ℕ → Result Frame Refusal
-framed cs = cond (nat_lt 100000000 (length cs)) (Err (record { fault = SourceTooLong; line = 0 })) (frame first-place unread (lines cs))
+framed cs = cond (nat_lt 100000000 (length cs)) (Err (record { fault = SourceTooLong; line = 0 })) (frame first_place unread (lines cs))
 
 -- there is a place for one block more where a block is open
 abbrev pub SpaciousAt : Stage → ℕ → Type 0

@@ -1,7 +1,7 @@
 -- The frame of a file in the subject's words: a header line, then comments and blocks, then the footer.
 use Rattle.std.specs.Prelude.{◌≡◌, ℕ, ◌+◌, ◌≤◌, true, false, ◌⊎◌, List, [], ◌∷◌, ◌++◌, map, length, Some, None, Option}
 use Rattle.frame.specs.DataLines.{data_at}
-use Rattle.frame.specs.Frames.{all_taken, first-place, footer, has_title, is_header, no_block}
+use Rattle.frame.specs.Frames.{all_taken, first_place, footer, has_title, is_header, no_block}
 use Rattle.frame.specs.Headings.{caption_of, heading_of, is_text}
 use Rattle.frame.specs.Lines.{fits, kind_of, line_of, lines, padded, passed}
 use Rattle.frame.specs.declared.data.DataLine.{DataLine}
@@ -105,8 +105,8 @@ pub record Right (cs : List ℕ) (f : Frame) : Type 0 where
   pub header : is_header (line_of first) ≡ true
   pub good : All Good parts
   pub ends : is_text footer (line_of last).columns ≡ true
-  pub apart : Apart (blocks_of (passed first-place (length first)) parts)
-  pub taken : all_taken (blocks_of (passed first-place (length first)) parts) ≡ true
-  pub frame : f ≡ frame_as (blocks_of (passed first-place (length first)) parts) (length (lines cs))
+  pub apart : Apart (blocks_of (passed first_place (length first)) parts)
+  pub taken : all_taken (blocks_of (passed first_place (length first)) parts) ≡ true
+  pub frame : f ≡ frame_as (blocks_of (passed first_place (length first)) parts) (length (lines cs))
   -- a walk from the line after a block's title yields the data lines of that block, with their numbers
-  pub walks : map (λ (b : Block). data_at cs b.body) (blocks_of (passed first-place (length first)) parts) ≡ data_of (passed first-place (length first)) parts
+  pub walks : map (λ (b : Block). data_at cs b.body) (blocks_of (passed first_place (length first)) parts) ≡ data_of (passed first_place (length first)) parts

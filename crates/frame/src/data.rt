@@ -18,10 +18,10 @@ pub struct DataLine {
 // The next data line at or after the place, which then stands after it; comments are passed over. None, at the place of the
 // line in the way, where another kind of line or none comes first.
 fn next_from<S: Source>(source: &S, place: &mut Place) -> Option<DataLine>
-    requires small { length (content source.now) ≤ 100000000 }
+    requires small { length (S.content source.now) ≤ 100000000 }
     requires number { place.old.line - 1 ≤ place.old.byte }
-    ensures found { result ≡ (walked place.old (lines (drop place.old.byte (content source.now)))).found }
-    ensures place { place.new ≡ (walked place.old (lines (drop place.old.byte (content source.now)))).place }
+    ensures found { result ≡ (walked place.old (lines (drop place.old.byte (S.content source.now)))).found }
+    ensures place { place.new ≡ (walked place.old (lines (drop place.old.byte (S.content source.now)))).place }
 {
     loop {
         let Fetched::Fit(line) = fetch(source, place.byte) else {
@@ -45,9 +45,9 @@ fn next_from<S: Source>(source: &S, place: &mut Place) -> Option<DataLine>
 // The next data line at or after a place that `check` has kept, or that an earlier call has left. At any other place of a
 // source, or where the source is too long, there is none, and the place stays.
 pub fn next_data<S: Source>(source: &S, place: &mut Place) -> Option<DataLine>
-    ensures found { result ≡ (walked_from (content source.now) place.old).found }
-    ensures place { place.new ≡ (walked_from (content source.now) place.old).place }
-    ensures yields { Yields (content source.now) place.old result place.new }
+    ensures found { result ≡ (walked_from (S.content source.now) place.old).found }
+    ensures place { place.new ≡ (walked_from (S.content source.now) place.old).place }
+    ensures yields { Yields (S.content source.now) place.old result place.new }
 {
     if source.length() > LONGEST || place.line.saturating_sub(1) as usize > place.byte {
         return None;

@@ -48,7 +48,7 @@ pub fn all_printable(line: &[u8]) -> bool
 
 // The line that begins at byte `at`; none at or past the source's length.
 pub fn fetch<S: Source>(source: &S, at: usize) -> Fetched
-    ensures { result ≡ fetched (drop at (content source.now)) }
+    ensures { result ≡ fetched (drop at (S.content source.now)) }
 {
     if at >= source.length() {
         return Fetched::End;

@@ -45,7 +45,7 @@ impl Drop for LookAhead<'_> {
 pub(crate) fn is_last<S: Source>(source: &S, place: &mut Place, len: usize) -> bool
     requires { (place.old.byte + len ≤ 100000000) × (place.old.line ≤ place.old.byte + 1) }
     ensures back { place.new ≡ place.old }
-    ensures last { result ≡ is_nil (drop (place.old.byte + len + 1) (content source.now)) }
+    ensures last { result ≡ is_nil (drop (place.old.byte + len + 1) (S.content source.now)) }
 {
     let byte = place.byte;
     let line = place.line;

@@ -237,7 +237,7 @@ fn end(progress: &Progress, place: Place, line: &Line) -> Result<Frame, Refusal>
 
 // The pass over the lines.
 fn walk_lines<S: Source>(source: &S) -> Result<Frame, Refusal>
-    ensures { result ≡ framed (content source.now) }
+    ensures { result ≡ framed (S.content source.now) }
 {
     if source.length() > LONGEST {
         return Err(Refusal {
@@ -265,8 +265,8 @@ fn walk_lines<S: Source>(source: &S) -> Result<Frame, Refusal>
 // The blocks of a source in its order, or the first fault of its frame: line by line the checks of a line, and at the footer
 // that each block is there that the register takes up.
 pub fn check<S: Source>(source: &S) -> Result<Frame, Refusal>
-    ensures frame { result ≡ framed (content source.now) }
-    ensures right { (f : Frame) → Exactly (result ≡ Ok f) (Right (content source.now) f) }
+    ensures frame { result ≡ framed (S.content source.now) }
+    ensures right { (f : Frame) → Exactly (result ≡ Ok f) (Right (S.content source.now) f) }
 {
     walk_lines(source)
 }

@@ -27,7 +27,7 @@ fn data_lines_of(blocks: &[Block], title: Title) -> u32
 
 // The header on the first line.
 fn first_header<S: Source>(source: &S) -> Result<(Header, u32), Fault>
-    ensures { result ≡ header_at (fetched (content source.now)) }
+    ensures { result ≡ header_at (fetched (S.content source.now)) }
 {
     match fetch(source, 0) {
         Fetched::Fit(line) => read_header(&line.columns),
@@ -37,7 +37,7 @@ fn first_header<S: Source>(source: &S) -> Result<(Header, u32), Fault>
 
 // The header of a file with these blocks: its count is that of the data lines with estimates.
 fn header_in<S: Source>(source: &S, blocks: &[Block]) -> Result<(Header, u32), Fault>
-    ensures { result ≡ header_in (content source.now) blocks.now }
+    ensures { result ≡ header_in (S.content source.now) blocks.now }
 {
     let (header, count) = first_header(source)?;
     if count == data_lines_of(blocks, Title::SolutionEstimate) {
@@ -64,7 +64,7 @@ fn put_file<S: Source>(
     source: &S,
     frame: &Frame,
 ) -> Result<(), AllocError>
-    ensures { OnOk result (out.new.items ≡ out.old.items ++ after_header (content source.now) frame.now (header_in (content source.now) (take frame.now.count frame.now.blocks))) }
+    ensures { OnOk result (out.new.items ≡ out.old.items ++ after_header (S.content source.now) frame.now (header_in (S.content source.now) (take frame.now.count frame.now.blocks))) }
 {
     let blocks = front(&frame.blocks, frame.count);
     match header_in(source, blocks) {
@@ -80,7 +80,7 @@ fn put_file<S: Source>(
 // The report of a file: the fields of its header, a line for each block in the file's order and one for the whole; or the
 // refusal.
 pub fn file_report<S: Source>(heap: Global, source: &S) -> Result<Vec<u8>, AllocError>
-    ensures { IfOk result (λ v. v.items ≡ file_report (content source.now)) }
+    ensures { IfOk result (λ v. v.items ≡ file_report (S.content source.now)) }
 {
     let mut out = Vec::new(heap);
     match check(source) {

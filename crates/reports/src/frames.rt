@@ -18,7 +18,7 @@ pub(crate) fn front<T>(items: &[T], n: usize) -> &[T]
 
 // The words of the title line that begins at byte `at`, one blank apart.
 fn put_title<S: Source>(out: &mut Vec<u8>, source: &S, at: usize) -> Result<(), AllocError>
-    ensures { OnOk result (out.new.items ≡ out.old.items ++ title_words (fetched (drop at (content source.now)))) }
+    ensures { OnOk result (out.new.items ≡ out.old.items ++ title_words (fetched (drop at (S.content source.now)))) }
 {
     match fetch(source, at) {
         Fetched::Fit(line) => {
@@ -46,7 +46,7 @@ fn put_block<S: Source>(
     source: &S,
     block: &Block,
 ) -> Result<(), AllocError>
-    ensures { OnOk result (out.new.items ≡ out.old.items ++ block_line (content source.now) block.now) }
+    ensures { OnOk result (out.new.items ≡ out.old.items ++ block_line (S.content source.now) block.now) }
 {
     out.extend_from_slice(b"BLOCK ")?;
     put_title(out, source, block.start.byte)?;
@@ -61,7 +61,7 @@ pub(crate) fn put_blocks<S: Source>(
     source: &S,
     blocks: &[Block],
 ) -> Result<(), AllocError>
-    ensures { OnOk result (out.new.items ≡ out.old.items ++ block_lines (content source.now) blocks.now) }
+    ensures { OnOk result (out.new.items ≡ out.old.items ++ block_lines (S.content source.now) blocks.now) }
 {
     for block in blocks {
         put_block(heap, out, source, block)?;
@@ -79,7 +79,7 @@ pub(crate) fn put_last(heap: Global, out: &mut Vec<u8>, lines: u32) -> Result<()
 
 // The report of a source: a line for each block in the file's order and one for the whole, or the refusal.
 pub fn frame_report<S: Source>(heap: Global, source: &S) -> Result<Vec<u8>, AllocError>
-    ensures { IfOk result (λ v. v.items ≡ frame_report (content source.now)) }
+    ensures { IfOk result (λ v. v.items ≡ frame_report (S.content source.now)) }
 {
     let mut out = Vec::new(heap);
     match check(source) {

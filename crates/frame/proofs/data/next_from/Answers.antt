@@ -7,23 +7,23 @@ use Rattle.frame.proofs.Turns.{read_bound}
 use Rattle.frame.proofs.data.next_from.Given as given
 use Rattle.frame.proofs.data.next_from.Goals as goal
 
-pub returns-in-default : goal.returns-in-default
-returns-in-default g c =
+pub returns-in_default : goal.returns-in_default
+returns-in_default g c =
     let cs = g.S.Source.content c.args.source.now in
-    let e = sym c.loop-line.invariant.1 ∙ walk_stops (drop c.loop-line.place.byte cs) c.loop-line.place _ c.fetch.ensures c.in-default.not-Fit in
+    let e = sym c.loop-line.invariant.1 ∙ walk_stops (drop c.loop-line.place.byte cs) c.loop-line.place _ c.fetch.ensures c.in_default.not-Fit in
     record { found = sym (ap (λ (w : Walked). w.found) e); place = sym (ap (λ (w : Walked). w.place) e) }
 
-pub returns-in-default-kind : goal.returns-in-default-kind
-returns-in-default-kind g c =
+pub returns-in_default-kind : goal.returns-in_default-kind
+returns-in_default-kind g c =
     let cs = g.S.Source.content c.args.source.now in
-    let e = sym c.loop-line.invariant.1 ∙ walk_turn cs c.loop-line.place c.in-Fit.line None c.in-Fit.ensures c.in-default-kind.ensures in
+    let e = sym c.loop-line.invariant.1 ∙ walk_turn cs c.loop-line.place c.in-Fit.line None c.in-Fit.ensures c.in_default-kind.ensures in
     record { found = sym (ap (λ (w : Walked). w.found) e); place = sym (ap (λ (w : Walked). w.place) e) }
 
-pub returns-in-default-kind-2 : goal.returns-in-default-kind-2
-returns-in-default-kind-2 g c =
+pub returns-in_default-kind-2 : goal.returns-in_default-kind-2
+returns-in_default-kind-2 g c =
     let cs = g.S.Source.content c.args.source.now in
     let e = sym c.loop-line.invariant.1 ∙ (walk_turn cs c.loop-line.place c.in-Fit.line _ c.in-Fit.ensures c.in-Some.ensures
-    ∙ walk_other c.in-Some.kind _ _ _ c.in-default-kind-2.not-Data c.in-default-kind-2.not-Comment) in
+    ∙ walk_other c.in-Some.kind _ _ _ c.in_default-kind-2.not-Data c.in_default-kind-2.not-Comment) in
     record { found = sym (ap (λ (w : Walked). w.found) e); place = sym (ap (λ (w : Walked). w.place) e) }
 
 pub pass-requires : goal.pass-requires

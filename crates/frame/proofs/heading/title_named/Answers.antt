@@ -4,4 +4,4 @@ use Rattle.frame.proofs.heading.title_named.Goals as goal
 
 pub returns : goal.returns
 unfolding title_named titles
-returns c = c.title-among.ensures
+returns c = c.title_among.ensures

@@ -5,7 +5,7 @@ use Rattle.frame.specs.Lines.{fetched, first_line, all_printable}
 use Rattle.frame.proofs.Walks.{Copied, copied_none, copied_more, first_ends, first-none, fetched-fit, fetched_unfit, fetched-long, byte_some, byte_none}
 use Rattle.frame.proofs.line.fetch.Given as given
 use Rattle.frame.proofs.line.fetch.Goals as goal
-use Rattle.frame.proofs.line.fetch.Goals.{Joined-byte, in-Some+then-b-eq10, in-default}
+use Rattle.frame.proofs.line.fetch.Goals.{Joined-byte, in-Some+then-b-eq10, in_default}
 
 pub returns-then-at-length : goal.returns-then-at-length
 returns-then-at-length g c =
@@ -32,19 +32,19 @@ loop-b-preserved g c = copied_more _ _ _ _ _ c.loop-b.invariant (sym c.in-Some.e
 ends : (g : given.Over) (c : Joined-byte g) → first_line (drop (c.args.at + c.loop-b.len) (g.S.Source.content c.args.source.now)) ≡ []
 ends g c = elim c.match-byte.branch [
   | in-Some+then-b-eq10 w ↦ first_ends _ (c.args.at + c.loop-b.len) (sym w.in-Some.ensures ∙ ap Some w.if-b-eq10.true)
-  | in-default w ↦ first-none _ (c.args.at + c.loop-b.len) (byte_none _ _ w.in-default.ensures)
+  | in_default w ↦ first-none _ (c.args.at + c.loop-b.len) (byte_none _ _ w.in_default.ensures)
 ]
 
-pub returns-then-all-printable : goal.returns-then-all-printable
-returns-then-all-printable g c =
+pub returns-then-all_printable : goal.returns-then-all_printable
+returns-then-all_printable g c =
     let cs = g.S.Source.content c.args.source.now in
     let h : c.args.at < length cs = omega arith in
     let z : c.loop-b.len - 0 ≡ c.loop-b.len = omega arith in
-    fetched-fit cs c.args.at c.loop-b.len _ h c.loop-b.invariant (ends g (goal.at.returns-then-all-printable g c).Joined-byte) (sym (c.if-all-printable.ensures ∙ ap (λ (n : ℕ). all_printable (take n c.loop-b.columns)) z))
+    fetched-fit cs c.args.at c.loop-b.len _ h c.loop-b.invariant (ends g (goal.at.returns-then-all_printable g c).Joined-byte) (sym (c.if-all_printable.ensures ∙ ap (λ (n : ℕ). all_printable (take n c.loop-b.columns)) z))
 
-pub returns-else-all-printable : goal.returns-else-all-printable
-returns-else-all-printable g c =
+pub returns-else-all_printable : goal.returns-else-all_printable
+returns-else-all_printable g c =
     let cs = g.S.Source.content c.args.source.now in
     let h : c.args.at < length cs = omega arith in
     let z : c.loop-b.len - 0 ≡ c.loop-b.len = omega arith in
-    fetched_unfit cs c.args.at c.loop-b.len _ h c.loop-b.invariant (ends g (goal.at.returns-else-all-printable g c).Joined-byte) (sym (c.if-all-printable.ensures ∙ ap (λ (n : ℕ). all_printable (take n c.loop-b.columns)) z))
+    fetched_unfit cs c.args.at c.loop-b.len _ h c.loop-b.invariant (ends g (goal.at.returns-else-all_printable g c).Joined-byte) (sym (c.if-all_printable.ensures ∙ ap (λ (n : ℕ). all_printable (take n c.loop-b.columns)) z))

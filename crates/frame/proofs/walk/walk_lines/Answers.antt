@@ -1,6 +1,6 @@
 use Rattle.std.proofs.Common.{◌≡◌, ℕ, ◌+◌, ◌<◌, ◌≤◌, false, length, drop, Ok, Err, Result, sym, refl, ap, ◌∙◌, subst, arith}
 use Rattle.std.proofs.lemmas.Result.{err_from_is_err_and}
-use Rattle.frame.specs.Frames.{ended, stepped, framed, first-place}
+use Rattle.frame.specs.Frames.{ended, stepped, framed, first_place}
 use Rattle.frame.specs.Lines.{passed}
 use Rattle.frame.specs.declared.place.Place.{Place}
 use Rattle.frame.specs.declared.walk.Progress.{Progress}
@@ -20,18 +20,18 @@ returns-in-Unfit g c =
     let cs = g.S.Source.content c.args.source.now in
     ap Err c.refuse-in-Unfit.ensures ∙ (turn_unfit (drop c.loop-place.place.byte cs) c.loop-place.place c.loop-place.progress c.in-Unfit.ensures ∙ going_all cs _ _ c.loop-place.invariant)
 
-pub is-last-requires : goal.is-last-requires
-is-last-requires g c =
+pub is_last-requires : goal.is_last-requires
+is_last-requires g c =
     let k = c.loop-place.invariant in
     let h = read_within _ _ _ k.within c.in-Fit.ensures in
     (omega (arith, k.small), k.number)
 
 -- after the look ahead the place is what it was
-pub returns-then-is-last : goal.returns-then-is-last
-returns-then-is-last g c =
+pub returns-then-is_last : goal.returns-then-is_last
+returns-then-is_last g c =
     let cs = g.S.Source.content c.args.source.now in
-    c.end.ensures ∙ (ap (λ (q : Place). ended q c.loop-place.progress c.in-Fit.line) c.is-last.ensures.back
-    ∙ (turn_last cs _ _ _ c.in-Fit.ensures c.if-is-last.ensures.last ∙ going_all cs _ _ c.loop-place.invariant))
+    c.end.ensures ∙ (ap (λ (q : Place). ended q c.loop-place.progress c.in-Fit.line) c.is_last.ensures.back
+    ∙ (turn_last cs _ _ _ c.in-Fit.ensures c.if-is_last.ensures.last ∙ going_all cs _ _ c.loop-place.invariant))
 
 pub end-requires : goal.end-requires
 end-requires g c = c.loop-place.invariant.orderly.within
@@ -40,48 +40,48 @@ pub step-requires : goal.step-requires
 step-requires g c =
     let k = c.loop-place.invariant in
     let h = read_within _ _ _ k.within c.in-Fit.ensures in
-    let b = ap (λ (q : Place). q.byte) c.is-last.ensures.back in
-    let l = ap (λ (q : Place). q.line) c.is-last.ensures.back in
+    let b = ap (λ (q : Place). q.byte) c.is_last.ensures.back in
+    let l = ap (λ (q : Place). q.line) c.is_last.ensures.back in
     record {
       room = (omega (arith, k.count, k.within, k.small), orderly_spacious _ k.orderly);
       place = (omega (arith, k.small, b), omega (arith, k.number, b, l));
     }
 
-pub returns-in-err-step : goal.returns-in-err-step
-returns-in-err-step g c =
+pub returns-in_err-step-in-Fit : goal.returns-in_err-step-in-Fit
+returns-in_err-step-in-Fit g c =
     let cs = g.S.Source.content c.args.source.now in
-    let here : Err c.in-err-step.field-0.0 ≡ stepped c.loop-place.place c.loop-place.progress c.in-Fit.line
-    = c.in-err-step.ensures.progress ∙ ap (λ (q : Place). stepped q c.loop-place.progress c.in-Fit.line) c.is-last.ensures.back in
-    let all : Err c.in-err-step.field-0.0 ≡ framed cs
-    = turn_stops cs _ _ _ _ c.in-Fit.ensures c.if-is-last.ensures.last here ∙ going_all cs _ _ c.loop-place.invariant in
-    let p = err_from_is_err_and c.from-residual.result c.from-residual.ensures.1 in
+    let here : Err c.in_err-step-in-Fit.field-0.0 ≡ stepped c.loop-place.place c.loop-place.progress c.in-Fit.line
+    = c.in_err-step-in-Fit.ensures.progress ∙ ap (λ (q : Place). stepped q c.loop-place.progress c.in-Fit.line) c.is_last.ensures.back in
+    let all : Err c.in_err-step-in-Fit.field-0.0 ≡ framed cs
+    = turn_stops cs _ _ _ _ c.in-Fit.ensures c.if-is_last.ensures.last here ∙ going_all cs _ _ c.loop-place.invariant in
+    let p = err_from_is_err_and c.from_residual.result c.from_residual.ensures.1 in
     rw (p.1, p.2) all
 
 pub pass-requires : goal.pass-requires
 pass-requires g c =
     let k = c.loop-place.invariant in
     let h = read_within _ _ _ k.within c.in-Fit.ensures in
-    let b = ap (λ (q : Place). q.byte) c.is-last.ensures.back in
-    let l = ap (λ (q : Place). q.line) c.is-last.ensures.back in
+    let b = ap (λ (q : Place). q.byte) c.is_last.ensures.back in
+    let l = ap (λ (q : Place). q.line) c.is_last.ensures.back in
     (omega (arith, k.small, b), omega (arith, k.number, b, l))
 
 pub loop-place-smaller : goal.loop-place-smaller
 loop-place-smaller g c =
     let cs = g.S.Source.content c.args.source.now in
-    let h : c.loop-place.place.byte + c.in-Fit.line.len + 1 < length cs = within_more cs _ c.if-is-last.ensures.last in
-    let e = ap (λ (q : Place). q.byte) (c.pass.ensures ∙ ap (λ (q : Place). passed q c.in-Fit.line.len) c.is-last.ensures.back) in
+    let h : c.loop-place.place.byte + c.in-Fit.line.len + 1 < length cs = within_more cs _ c.if-is_last.ensures.last in
+    let e = ap (λ (q : Place). q.byte) (c.pass.ensures ∙ ap (λ (q : Place). passed q c.in-Fit.line.len) c.is_last.ensures.back) in
     omega (arith, h, e)
 
 -- one turn on
 pub loop-place-preserved : goal.loop-place-preserved
 loop-place-preserved g c =
     going_more _ c.loop-place.place _ c.loop-place.progress _ c.in-Fit.line c.loop-place.invariant c.in-Fit.ensures
-    c.if-is-last.ensures.last
-    (c.in-ok-step.ensures.progress ∙ ap (λ (q : Place). stepped q c.loop-place.progress c.in-Fit.line) c.is-last.ensures.back)
-    (c.pass.ensures ∙ ap (λ (q : Place). passed q c.in-Fit.line.len) c.is-last.ensures.back)
+    c.if-is_last.ensures.last
+    (c.in_ok-step-in-Fit.ensures.progress ∙ ap (λ (q : Place). stepped q c.loop-place.progress c.in-Fit.line) c.is_last.ensures.back)
+    (c.pass.ensures ∙ ap (λ (q : Place). passed q c.in-Fit.line.len) c.is_last.ensures.back)
 
 pub loop-place-init : goal.loop-place-init
 loop-place-init g c =
     let cs = g.S.Source.content c.args.source.now in
     let h : length cs ≤ 100000000 = omega arith in
-    subst (λ (f : Progress). Going cs first-place f) (sym c.fresh-progress.ensures) (going_none cs h)
+    subst (λ (f : Progress). Going cs first_place f) (sym c.fresh-progress.ensures) (going_none cs h)
