@@ -1,11 +1,10 @@
 -- A code is read exactly from its own letter.
-use Rattle.std.proofs.Common.{◌≡◌, ℕ, Bool, true, false, cond, eqb, List, [], ◌∷◌, Some, None, Ok, Err, codes, Option, Result, Ordering, Less, Equal, Greater, sym, refl, ap, ◌∙◌, subst, ⊎_elim, arith}
-use Rattle.std.specs.Ordering.{MatchOrdering}
+use Rattle.std.proofs.Common.{◌≡◌, ℕ, true, cond, eqb, List, [], ◌∷◌, Some, None, Ok, Option, Result, Ordering, Less, Equal, Greater, sym, refl, ap, ◌∙◌, ⊎_elim}
 use Rattle.std.proofs.lemmas.Bool.{cond-true, cond-false, cases_Bool, eqb-true, false≢true}
 use Rattle.refusals.specs.declared.Fault.{Fault}
 use Rattle.refusals.specs.declared.Fault.TheVariants.{WrongText}
 use Rattle.codes.specs.Order.{lex, is_equal, same_text}
-use Rattle.codes.specs.Codes.{letter_of, technique_letter, read_technique, constraint_digit, read_constraint, contents_letter, place_letter, read_contents, matrix_kind_text, read_matrix_kind, CodesComeBack}
+use Rattle.codes.specs.Codes.{technique_letter, read_technique, constraint_digit, read_constraint, place_letter, read_contents, matrix_kind_text, read_matrix_kind, CodesComeBack}
 use Rattle.codes.specs.declared.letters.Technique.{Technique}
 use Rattle.codes.specs.declared.letters.Technique.TheVariants.{Combined, Doris, SatelliteLaser, LunarLaser, Gnss, Vlbi}
 use Rattle.codes.specs.declared.letters.Constraint.{Constraint}

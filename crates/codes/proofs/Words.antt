@@ -1,10 +1,10 @@
 -- Words among blanks.
-use Rattle.std.proofs.Common.{◌≡◌, ℕ, zero, suc, ◌+◌, ◌-◌, ◌<◌, ◌≤◌, Bool, true, false, cond, not, ◌&&◌, eqb, leb, ◌⊎◌, List, [], ◌∷◌, ◌++◌, length, get_or, take, drop, set, replicate, Ok, Err, sym, refl, ap, ◌∙◌, subst, inl, inr, ⊎_elim, arith}
+use Rattle.std.proofs.Common.{◌≡◌, ℕ, suc, ◌+◌, ◌-◌, ◌<◌, ◌≤◌, true, false, ◌&&◌, eqb, leb, List, [], ◌∷◌, ◌++◌, length, get_or, take, drop, set, replicate, Ok, Err, sym, refl, ap, ◌∙◌, ⊎_elim, arith}
 use Rattle.std.proofs.lemmas.List.{at_drop_more, at_drop_all, take_rest, set_at, length-take-le, append_assoc, take_more}
 use Rattle.std.proofs.lemmas.Bool.{eq-eqb, ne_eqb, cond-true, cond-false, cases_Bool, cases_lt, cond_both, true≢false, and_from, and_left, and_right, le-leb, lt-leb}
 use Rattle.decimals.specs.Scan.{unblank}
 use Rattle.decimals.specs.Number.{blank}
-use Rattle.codes.specs.Text.{word, after_word, padded, read_text, filled, trimmed, read_description}
+use Rattle.codes.specs.Text.{word, after_word, padded, read_text, filled}
 use Rattle.refusals.specs.declared.Fault.TheVariants.{WrongText}
 
 pub word_yes : (xs : List ℕ) (i : ℕ) → i < length xs → (get_or xs i 0 ≡ 32 → ⊥) → length (word (drop i xs)) ≡ 1 + length (word (drop (i + 1) xs))

@@ -1,11 +1,11 @@
 -- The parameter types.
-use Rattle.std.specs.Prelude.{◌≡◌, ℕ, ◌<◌, Bool, true, false, cond, ◌||◌, List, [], ◌∷◌, ◌++◌, map, length, get_or, take, Some, None, Ok, Err, codes, Option, Result, slice_index_or}
+use Rattle.std.specs.Prelude.{◌≡◌, ℕ, ◌<◌, Bool, false, cond, ◌||◌, List, [], ◌∷◌, ◌++◌, length, get_or, take, Some, None, Ok, Err, codes, Option, Result, slice_index_or}
 use Rattle.refusals.specs.declared.Fault.{Fault}
 use Rattle.refusals.specs.declared.Fault.TheVariants.{WrongType}
 use Rattle.codes.specs.Order.{same_text}
 use Rattle.codes.specs.Text.{padded, read_text}
 use Rattle.codes.specs.declared.letters.Contents.{Contents}
-use Rattle.codes.specs.declared.letters.Contents.TheVariants.{Stations, Orbits, EarthOrientation, Troposphere, CelestialFrame, Antennas}
+use Rattle.codes.specs.declared.letters.Contents.TheVariants.{Stations, EarthOrientation, Troposphere, CelestialFrame, Antennas}
 use Rattle.codes.specs.declared.types.ParameterType.{ParameterType}
 
 -- whether a name begins with w

@@ -1,5 +1,5 @@
 -- Texts, and columns that have to be blank.
-use Rattle.std.specs.Prelude.{◌≡◌, ℕ, ◌+◌, ◌-◌, ◌<◌, ◌≤◌, Bool, true, false, cond, not, ◌&&◌, List, [], ◌∷◌, ◌++◌, length, take, replicate, Ok, Err, Result, ◌==◌, ◌≢◌, nat_le}
+use Rattle.std.specs.Prelude.{◌≡◌, ℕ, ◌+◌, ◌-◌, ◌≤◌, cond, ◌&&◌, List, [], ◌∷◌, ◌++◌, length, take, replicate, Ok, Err, Result, ◌==◌, ◌≢◌, nat_le}
 use Rattle.decimals.specs.Scan.{unblank}
 use Rattle.decimals.specs.Number.{blank}
 use Rattle.refusals.specs.declared.Fault.{Fault}

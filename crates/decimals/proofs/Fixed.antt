@@ -1,11 +1,11 @@
 -- The digits that are written are the digits that are read.
-use Rattle.std.proofs.Common.{◌≡◌, ℕ, zero, suc, ◌+◌, ◌-◌, ◌*◌, ◌/◌, ◌%◌, ◌^◌, ◌<◌, ◌≤◌, Bool, true, false, cond, List, [], ◌∷◌, ◌++◌, length, get_or, take, drop, set, ℤ, pos, negsuc, sym, refl, ap, ◌∙◌, subst, add_assoc, mod-lt, mod-eq_of_lt, mul_assoc, mul_comm, add-mul, pow-suc, mul-zero, div-add-mod', mul-one, arith}
+use Rattle.std.proofs.Common.{◌≡◌, ℕ, zero, suc, ◌+◌, ◌-◌, ◌*◌, ◌/◌, ◌%◌, ◌^◌, ◌<◌, ◌≤◌, true, List, [], ◌∷◌, ◌++◌, length, get_or, take, drop, set, ℤ, pos, negsuc, sym, refl, ap, ◌∙◌, mul_assoc, mul_comm, add-mul, pow-suc, arith}
 use borrow.Rule.Slice.PartMut.{put_mid}
 use Rattle.std.proofs.lemmas.List.{drop_all, drop_at, drop-drop, drop-set, append-nil, take-append-le, take-take, length-take-le}
 use lib.Signed.{lt_z}
 use lib.Arith.{mod-mul}
-use native.Mathlib.Nat.{div-div-eq-div-mul, pow-zero, mod-one}
-use Rattle.std.proofs.lemmas.Bool.{cond-true, cond-false, le-ltb}
+use native.Mathlib.Nat.{div-div-eq-div-mul, mod-one}
+use Rattle.std.proofs.lemmas.Bool.{cond-true, le-ltb}
 use Rattle.decimals.specs.Scan.{is_digit, digits_from, count, past}
 use Rattle.decimals.specs.Write.{fixed, below}
 use Rattle.decimals.proofs.Fronts.{digit_yes}

@@ -1,13 +1,12 @@
 -- The form of a number's text, byte by byte.
-use Rattle.std.proofs.Common.{◌≡◌, ℕ, suc, ◌+◌, ◌-◌, ◌*◌, ◌^◌, ◌<◌, ◌≤◌, Bool, true, false, cond, ◌&&◌, ◌||◌, eqb, leb, ◌⊎◌, List, [], ◌∷◌, length, get_or, take, drop, ℤ, pos, ◌-ℤ◌, neg_ℤ, Some, None, sym, refl, ap, ◌∙◌, subst, inl, inr, ⊎_elim, le_trans, mul-le-mul_right, mul_assoc, mul_comm, mul-le-mul_left, arith, w32, to_z, of_z}
+use Rattle.std.proofs.Common.{◌≡◌, ℕ, ◌+◌, ◌-◌, ◌*◌, ◌^◌, ◌<◌, ◌≤◌, Bool, true, eqb, ◌⊎◌, List, [], ◌∷◌, length, get_or, take, drop, pos, ◌-ℤ◌, neg_ℤ, Some, sym, refl, ap, ◌∙◌, inl, inr, ⊎_elim, le_trans, arith, w32, to_z, of_z}
 use Rattle.std.proofs.lemmas.Int.{ints}
 use Rattle.std.proofs.lemmas.Bool.Decides.{nat_tests}
-use Rattle.std.proofs.lemmas.List.{take_rest}
-use Rattle.std.proofs.lemmas.Bool.{eq-eqb, ne_eqb, cond-true, cond-false, or_right, or_left, or_from, and_from, le-leb, cases_Bool}
-use Rattle.decimals.specs.Scan.{unblank, minus, unsigned, is_digit, digits_from, count, past}
-use Rattle.decimals.specs.Number.{Digits, after_whole, digits_of_text, exponent, exponent_digits, blank, signed}
+use Rattle.std.proofs.lemmas.Bool.{eq-eqb, ne_eqb, cond-true, cond-false, or_right, or_left, and_from, le-leb, cases_Bool}
+use Rattle.decimals.specs.Scan.{minus, unsigned, is_digit, digits_from, count, past}
+use Rattle.decimals.specs.Number.{after_whole, exponent, exponent_digits, blank, signed}
 use Rattle.decimals.proofs.Fronts.{rest_of}
-use Rattle.decimals.proofs.Powers.{ten_mono, ten_more, digit_on}
+use Rattle.decimals.proofs.Powers.{ten_mono, digit_on}
 
 -- what is left after the first byte, as `&u[1..]` has it
 abbrev pub tail : List ℕ → List ℕ

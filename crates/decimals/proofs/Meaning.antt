@@ -1,8 +1,8 @@
 -- The laws of reading, from texts.
-use Rattle.std.proofs.Common.{◌≡◌, ℕ, ◌+◌, ◌^◌, ◌<◌, ◌≤◌, true, false, ◌⊎◌, List, length, ℤ, pos, negsuc, ◌≤ℤ◌, Some, None, Ok, Err, Option, Result, sym, refl, ap, ◌∙◌, subst, inl, inr, ⊎_elim, arith}
+use Rattle.std.proofs.Common.{◌≡◌, ℕ, ◌+◌, ◌^◌, ◌≤◌, true, List, length, negsuc, ◌≤ℤ◌, Some, None, Ok, Err, Option, Result, sym, refl, ap, ◌∙◌, subst, inl, inr, ⊎_elim, arith}
 use Rattle.std.proofs.lemmas.Bool.{cases_lt, cases_Bool, cond-true, cond-false, true≢false}
-use Rattle.decimals.specs.Number.{Said, said, read_at, read_number, read_deviation, deviation_of, number_of, scaled}
-use Rattle.decimals.specs.Value.{units, worth, SameValue, ValueIsKept, SameExactly, OneForm, RefusedRightly, SameDeviations, DeviationsRefusedRightly}
+use Rattle.decimals.specs.Number.{Said, said, read_at, read_number, read_deviation, deviation_of, number_of}
+use Rattle.decimals.specs.Value.{SameValue, ValueIsKept, SameExactly, OneForm, RefusedRightly, SameDeviations, DeviationsRefusedRightly}
 use Rattle.decimals.specs.Write.{Canonical, CanonicalDeviation, NumbersComeBack, DeviationsComeBack}
 use Rattle.decimals.specs.declared.number.Number.{Number}
 use Rattle.decimals.specs.declared.number.Deviation.{Deviation}

@@ -1,5 +1,5 @@
 -- The cases of `read_at`.
-use Rattle.std.proofs.Common.{◌≡◌, ℕ, ◌+◌, ◌*◌, ◌^◌, ◌<◌, ◌≤◌, Bool, true, false, cond, eqb, leb, List, length, ℤ, pos, ◌+ℤ◌, ◌-ℤ◌, Some, None, Ok, Err, sym, refl, ap, ◌∙◌, subst, arith}
+use Rattle.std.proofs.Common.{◌≡◌, ℕ, ◌+◌, ◌*◌, ◌^◌, ◌<◌, ◌≤◌, Bool, List, length, ℤ, pos, ◌+ℤ◌, ◌-ℤ◌, Some, None, Err, ap, ◌∙◌, arith}
 use Rattle.decimals.proofs.Powers.{ten_pos}
 use Rattle.decimals.proofs.Sizes.{size_is}
 use Rattle.decimals.proofs.Scaling.{scaled_fits}

@@ -1,13 +1,12 @@
 -- What is written of a number is read as that number.
-use Rattle.std.proofs.Common.{◌≡◌, ℕ, zero, suc, ◌+◌, ◌-◌, ◌*◌, ◌/◌, ◌%◌, ◌^◌, ◌<◌, ◌≤◌, Bool, true, false, cond, eqb, leb, ◌⊎◌, List, [], ◌∷◌, ◌++◌, length, ℤ, pos, negsuc, ◌+ℤ◌, ◌-ℤ◌, nat_abs, ◌≤ℤ◌, Some, None, Ok, Err, Option, sym, refl, ap, ◌∙◌, subst, inl, inr, mod-eq_of_lt, mul_comm, pow-suc, div-add-mod', mul-div_cancel, arith, length-append}
-use lib.Signed.{lt_z}
+use Rattle.std.proofs.Common.{◌≡◌, ℕ, suc, ◌+◌, ◌*◌, ◌/◌, ◌%◌, ◌^◌, ◌<◌, ◌≤◌, Bool, true, false, cond, eqb, List, [], ◌∷◌, ◌++◌, length, ℤ, pos, negsuc, ◌+ℤ◌, ◌-ℤ◌, nat_abs, ◌≤ℤ◌, Some, Ok, sym, refl, ap, ◌∙◌, subst, inl, inr, mod-eq_of_lt, mul_comm, div-add-mod', mul-div_cancel, arith, length-append}
 use native.Mathlib.Nat.{mul-mod_left}
 use Rattle.std.proofs.lemmas.Bool.{cond-true, cond-false, ne_eqb, or_from}
 use Rattle.std.proofs.lemmas.Nat.{div_below}
 use Rattle.std.proofs.lemmas.Int.{ints}
 use Rattle.std.proofs.lemmas.List.{append-nil}
 use Rattle.decimals.specs.Scan.{unblank, minus, unsigned, is_digit, digits_from, count, past}
-use Rattle.decimals.specs.Number.{Digits, Said, after_whole, digits_of_text, exponent, exponent_digits, said, said_by, scaled, fitted, size, number_of, read_at, zero_number, signed, read_number, read_deviation, deviation_of}
+use Rattle.decimals.specs.Number.{Said, after_whole, digits_of_text, exponent, exponent_digits, said, said_by, scaled, fitted, number_of, signed, read_number, read_deviation, deviation_of}
 use Rattle.decimals.specs.Write.{fixed, below, digits_text, number_text, deviation_text, Canonical, CanonicalDeviation}
 use Rattle.decimals.specs.declared.number.Number.{Number}
 use Rattle.decimals.specs.declared.number.Deviation.{Deviation}

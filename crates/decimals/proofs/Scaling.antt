@@ -1,11 +1,9 @@
 -- The cases of `scaled`.
-use Rattle.std.proofs.Common.{◌≡◌, ℕ, suc, ◌+◌, ◌-◌, ◌*◌, ◌/◌, ◌%◌, ◌^◌, ◌<◌, ◌≤◌, Bool, true, false, cond, ◌&&◌, eqb, ℤ, pos, negsuc, ◌+ℤ◌, ◌-ℤ◌, ◌≤ℤ◌, ◌<ℤ◌, Ok, Err, sym, refl, ap, ◌∙◌, subst, arith, w32, to_z, of_z}
-use lib.Signed.{le_z, lt_z}
-use Rattle.std.proofs.lemmas.Bool.{eq-eqb, ne_eqb, cond-true, cond-false, and_from, and_left, and_right}
+use Rattle.std.proofs.Common.{◌≡◌, ℕ, ◌*◌, ◌/◌, ◌%◌, ◌^◌, Bool, false, eqb, ℤ, pos, negsuc, ◌+ℤ◌, ◌-ℤ◌, Ok, arith}
+use lib.Signed.{lt_z}
+use Rattle.std.proofs.lemmas.Bool.{eq-eqb, ne_eqb, cond-true, cond-false, and_from}
 use Rattle.std.proofs.lemmas.Int.{ints}
 use Rattle.decimals.specs.Number.{Said, size, scaled, fitted, in_range, zero_number}
-use Rattle.decimals.specs.declared.number.Number.{Number}
-use Rattle.refusals.specs.declared.Fault.TheVariants.{WrongNumber, NumberOutOfRange}
 
 -- the exponent of a number's first digit
 abbrev pub top_of : Said → ℤ

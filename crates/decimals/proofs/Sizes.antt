@@ -1,10 +1,10 @@
 -- How many digits a number has.
-use Rattle.std.proofs.Common.{◌≡◌, ℕ, suc, ◌+◌, ◌-◌, ◌*◌, ◌^◌, ◌<◌, ◌≤◌, ◌⊎◌, sym, refl, ap, ◌∙◌, subst, inl, inr, ⊎_elim, arith}
+use Rattle.std.proofs.Common.{◌≡◌, ℕ, ◌+◌, ◌^◌, ◌<◌, ◌≤◌, subst, ⊎_elim, arith}
 use Rattle.std.specs.Int.Digits.{digits_of}
 use Rattle.std.proofs.lemmas.Int.Digits.{length-digits_of-le, number_lt, number_digits_of, all_below_base_digits_of}
 use Rattle.std.proofs.lemmas.Bool.{cases_lt}
 use Rattle.decimals.specs.Number.{size}
-use Rattle.decimals.proofs.Powers.{ten_mono, ten_pos, ten_more}
+use Rattle.decimals.proofs.Powers.{ten_mono}
 
 -- a number is below the power of ten of its size
 pub size_above : (v : ℕ) → v < 10 ^ size v

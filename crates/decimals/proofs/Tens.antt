@@ -1,8 +1,8 @@
 -- Products with powers of ten.
-use Rattle.std.proofs.Common.{◌≡◌, ℕ, zero, suc, ◌+◌, ◌-◌, ◌*◌, ◌/◌, ◌%◌, ◌^◌, ◌<◌, ◌≤◌, ◌⊎◌, sym, refl, ap, ◌∙◌, subst, inl, inr, ⊎_elim, le_trans, mul-le-mul_right, mul_assoc, mul_comm, lt_of_mul-lt-mul_right, mul-le-mul_left, mul-lt-mul_of_pos_right, mul_right_comm, le_of_mul-le-mul_right, arith, pow-add}
-use Rattle.std.proofs.lemmas.Bool.{cases_lt, cases_order}
+use Rattle.std.proofs.Common.{◌≡◌, ℕ, ◌+◌, ◌-◌, ◌*◌, ◌^◌, ◌<◌, ◌≤◌, sym, ap, ◌∙◌, subst, ⊎_elim, mul-le-mul_right, mul_assoc, mul_comm, lt_of_mul-lt-mul_right, mul-le-mul_left, mul-lt-mul_of_pos_right, le_of_mul-le-mul_right, arith, pow-add}
+use Rattle.std.proofs.lemmas.Bool.{cases_lt}
 use Rattle.decimals.specs.Number.{size}
-use Rattle.decimals.proofs.Powers.{ten_pos, ten_more, ten_mono}
+use Rattle.decimals.proofs.Powers.{ten_pos}
 use Rattle.decimals.proofs.Sizes.{size_above, size_le, size_ge, size_is}
 
 pub ten_add : (x i j : ℕ) → x * 10 ^ (i + j) ≡ x * 10 ^ i * 10 ^ j

@@ -1,5 +1,5 @@
 -- A number read has the value that its text says, and a number is fixed by its value.
-use Rattle.std.proofs.Common.{◌≡◌, ℕ, zero, suc, ◌+◌, ◌-◌, ◌*◌, ◌/◌, ◌%◌, ◌^◌, ◌<◌, ◌≤◌, Bool, true, false, cond, ◌&&◌, eqb, ◌⊎◌, ℤ, pos, negsuc, ◌+ℤ◌, ◌-ℤ◌, nat_abs, ◌≤ℤ◌, Ok, Err, sym, refl, ap, ◌∙◌, subst, inl, inr, ⊎_elim, div-add-mod', mul-div_cancel, arith}
+use Rattle.std.proofs.Common.{◌≡◌, ℕ, ◌+◌, ◌*◌, ◌/◌, ◌%◌, ◌^◌, ◌<◌, ◌≤◌, Bool, false, ◌&&◌, eqb, ◌⊎◌, ℤ, pos, negsuc, ◌+ℤ◌, ◌-ℤ◌, nat_abs, ◌≤ℤ◌, Ok, Err, sym, refl, ap, ◌∙◌, subst, inl, inr, ⊎_elim, div-add-mod', arith}
 use lib.Signed.{le_z, lt_z}
 use native.Mathlib.Nat.{mul-mod_left}
 use Rattle.std.proofs.lemmas.Bool.{cases_Bool, cases_eq, cond-true, cond-false, and_parts, eqb-true}
@@ -9,7 +9,7 @@ use Rattle.decimals.specs.Write.{Canonical}
 use Rattle.decimals.specs.Value.{units, worth, SameValue}
 use Rattle.decimals.specs.declared.number.Number.{Number}
 use Rattle.refusals.specs.declared.Fault.TheVariants.{NumberOutOfRange}
-use Rattle.decimals.proofs.Powers.{ten_pos, ten_more}
+use Rattle.decimals.proofs.Powers.{ten_pos}
 use Rattle.decimals.proofs.Sizes.{size_is, size_above}
 use Rattle.decimals.proofs.Scaling.{scaled_zero, scaled_fits, top_of, fitted_yes}
 use Rattle.decimals.proofs.Tens.{ten_add, cancel, cancel_le, cancel_lt, size_reaches, sizes_add, bound_lo, bound_hi, times_pos}

@@ -1,11 +1,11 @@
 -- A field is refused for its form exactly where it has not the form.
-use Rattle.std.proofs.Common.{◌≡◌, ℕ, ◌^◌, ◌≤◌, Bool, true, false, cond, ◌&&◌, eqb, ◌⊎◌, List, length, ℤ, Some, None, Ok, Err, Option, Result, sym, refl, ap, ◌∙◌, subst, inl, inr, ⊎_elim, arith}
+use Rattle.std.proofs.Common.{◌≡◌, ℕ, ◌^◌, ◌≤◌, Bool, true, false, eqb, List, length, ℤ, Some, None, Ok, Err, Option, Result, sym, refl, ap, ◌∙◌, ⊎_elim, arith}
 use Rattle.std.proofs.lemmas.Bool.{cond_both, cases_eq, cases_Bool, cond-true, cond-false, false≢true}
 use Rattle.refusals.specs.declared.Fault.{Fault}
 use Rattle.refusals.specs.declared.Fault.TheVariants.{WrongNumber, NumberOutOfRange}
 use Rattle.refusals.specs.Numbers.{number_of as faultNumber}
-use Rattle.decimals.specs.Number.{Said, said, size, fitted, in_range, scaled, number_of, read_at, read_number, read_deviation, deviation_of, zero_number}
-use Rattle.decimals.specs.Grammar.{Parts, WellFormed, spelled, meant, Formless, WrongExactly}
+use Rattle.decimals.specs.Number.{Said, said, fitted, scaled, number_of, read_at, deviation_of}
+use Rattle.decimals.specs.Grammar.{meant, Formless, WrongExactly}
 use Rattle.decimals.specs.declared.number.Number.{Number}
 use Rattle.decimals.proofs.Reading.{read_at-said}
 use Rattle.decimals.proofs.Scaling.{scaled_zero, scaled_fits, top_of}

@@ -1,5 +1,5 @@
 -- The form of a number's text, part by part.
-use Rattle.std.specs.Prelude.{◌≡◌, ℕ, ◌+◌, ◌≤◌, Bool, true, false, ◌⊎◌, List, [], ◌∷◌, ◌++◌, length, replicate, ℤ, pos, ◌-ℤ◌, Some, Err, ◌≢◌}
+use Rattle.std.specs.Prelude.{◌≡◌, ℕ, ◌+◌, ◌≤◌, true, ◌⊎◌, List, [], ◌∷◌, ◌++◌, length, replicate, pos, ◌-ℤ◌, Some, Err, ◌≢◌}
 use Rattle.refusals.specs.declared.Fault.TheVariants.{WrongNumber}
 use Rattle.decimals.specs.Scan.{is_digit, digits_from, minus}
 use Rattle.decimals.specs.Number.{Said, said, signed, read_number, read_deviation}

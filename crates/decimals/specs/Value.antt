@@ -1,5 +1,5 @@
 -- The decimal value of a text, and when two texts have the same.
-use Rattle.std.specs.Prelude.{◌≡◌, ℕ, ◌+◌, ◌*◌, ◌^◌, true, ◌⊎◌, List, ℤ, pos, negsuc, ◌+ℤ◌, ◌-ℤ◌, ◌≤ℤ◌, Some, Ok, Err, ◌≢◌, unsigned_abs}
+use Rattle.std.specs.Prelude.{◌≡◌, ℕ, ◌*◌, ◌^◌, true, ◌⊎◌, List, ℤ, pos, negsuc, ◌+ℤ◌, ◌-ℤ◌, ◌≤ℤ◌, Some, Ok, Err, ◌≢◌, unsigned_abs}
 use Rattle.decimals.specs.Number.{Said, said, read_number, read_deviation}
 use Rattle.decimals.specs.Write.{Canonical, CanonicalDeviation}
 use Rattle.decimals.specs.declared.number.Number.{Number}

@@ -1,12 +1,12 @@
 -- Each field fills its columns.
-use Rattle.std.proofs.Common.{◌≡◌, ℕ, ◌+◌, ◌/◌, ◌%◌, Bool, false, List, [], ◌∷◌, ◌++◌, length, ℤ, nat_abs, sym, refl, ap, ◌∙◌, arith}
+use Rattle.std.proofs.Common.{◌≡◌, ℕ, ◌/◌, ◌%◌, false, List, ◌∷◌, ◌++◌, length, ℤ, nat_abs, refl, ◌∙◌, arith}
 use Rattle.std.proofs.lemmas.List.{length-append}
 use Rattle.decimals.specs.Justify.{justified}
 use Rattle.decimals.specs.Write.{below, fixed}
 use Rattle.decimals.proofs.Fixed.{length-fixed}
 use Rattle.decimals.proofs.Runs.{length-justified}
 use Rattle.fields.specs.Angle.{angle_text, height_text}
-use Rattle.fields.specs.Epoch.{epoch_text, moment_text}
+use Rattle.fields.specs.Epoch.{epoch_text}
 use Rattle.fields.specs.Widths.{WidthsAreExact}
 use Rattle.fields.specs.declared.epochs.Epoch.{Epoch}
 use Rattle.fields.specs.declared.epochs.Epoch.TheVariants.{Open, At}

@@ -1,5 +1,5 @@
 -- Counts, angles and heights: what is written is read, and what is read is within its range.
-use Rattle.std.proofs.Common.{◌≡◌, ℕ, zero, suc, ◌+◌, ◌-◌, ◌*◌, ◌/◌, ◌%◌, ◌^◌, ◌<◌, ◌≤◌, Bool, true, false, cond, ◌&&◌, eqb, ltb, leb, ◌⊎◌, List, [], ◌∷◌, ◌++◌, length, get_or, take, drop, ℤ, pos, negsuc, neg_ℤ, nat_abs, ◌≤ℤ◌, Some, None, Ok, Err, Option, Result, sym, refl, ap, ◌∙◌, subst, inl, inr, ⊎_elim, mod-eq_of_lt, div-one, arith}
+use Rattle.std.proofs.Common.{◌≡◌, ℕ, zero, suc, ◌+◌, ◌*◌, ◌/◌, ◌%◌, ◌^◌, ◌<◌, ◌≤◌, Bool, true, false, cond, ◌&&◌, ltb, leb, List, [], ◌∷◌, ◌++◌, length, ℤ, pos, negsuc, neg_ℤ, nat_abs, ◌≤ℤ◌, Some, None, Ok, Err, Option, Result, sym, refl, ap, ◌∙◌, subst, mod-eq_of_lt, div-one, arith}
 use Rattle.std.proofs.lemmas.List.{append-nil}
 use Rattle.std.proofs.lemmas.Int.{ints}
 use Rattle.std.proofs.lemmas.Bool.{cond-true, cond_both, and_from, and_parts, le-leb, lt-ltb, leb-true}
@@ -12,10 +12,10 @@ use Rattle.decimals.specs.Write.{below, fixed}
 use Rattle.decimals.specs.Grammar.{OnlyDigits}
 use Rattle.decimals.specs.Justify.{justified}
 use Rattle.decimals.proofs.Bounds.{unblank_le}
-use Rattle.decimals.proofs.Fixed.{digit_of, length-fixed}
-use Rattle.decimals.proofs.Runs.{Below, Justified, Shown, right_shown, right_numeral, justified_read, justified-plain, numeral-run, numeral-fixed, numeral-below, tenths-run, fixed_number, only-fixed, digit_front, length-justified}
-use Rattle.fields.specs.Count.{or_wrong_number, read_count, index_text, count_text, CountsComeBack}
-use Rattle.fields.specs.Angle.{columns, spaced, angle, angle_of, angle_rest, read_longitude, read_latitude, height, height_of, read_height, angle_text, height_text, LongitudesComeBack, LatitudesComeBack, HeightsComeBack}
+use Rattle.decimals.proofs.Fixed.{digit_of}
+use Rattle.decimals.proofs.Runs.{Below, Justified, right_shown, right_numeral, justified_read, justified-plain, numeral-run, numeral-fixed, numeral-below, tenths-run, fixed_number, digit_front, length-justified}
+use Rattle.fields.specs.Count.{or_wrong_number, CountsComeBack}
+use Rattle.fields.specs.Angle.{columns, spaced, angle, angle_of, angle_rest, read_longitude, read_latitude, height_of, read_height, angle_text, height_text, LongitudesComeBack, LatitudesComeBack, HeightsComeBack}
 use Rattle.decimals.proofs.Faults.{no_fault, same_result}
 
 -- ---- counts

@@ -1,20 +1,18 @@
 -- Epochs: what is written is read, and their order is that of time.
-use Rattle.std.proofs.Common.{◌≡◌, ℕ, zero, suc, ◌+◌, ◌-◌, ◌*◌, ◌/◌, ◌%◌, ◌^◌, ◌<◌, ◌≤◌, Bool, true, false, cond, ◌&&◌, eqb, leb, ◌⊎◌, List, [], ◌∷◌, ◌++◌, length, get_or, take, drop, Some, None, Ok, Err, Option, Result, Ordering, Less, Equal, Greater, sym, refl, ap, ◌∙◌, subst, inl, inr, ⊎_elim, mod-eq_of_lt, arith}
+use Rattle.std.proofs.Common.{◌≡◌, ℕ, zero, suc, ◌+◌, ◌-◌, ◌%◌, ◌<◌, ◌≤◌, Bool, cond, ◌&&◌, eqb, leb, ◌⊎◌, List, length, get_or, take, drop, Some, None, Ok, Err, Option, Result, Ordering, Less, Equal, sym, refl, ap, ◌∙◌, subst, inl, inr, ⊎_elim, mod-eq_of_lt, arith}
 use Rattle.std.specs.Ordering.{ordering_then, ordering_reverse, nat_cmp}
-use Rattle.std.proofs.lemmas.Bool.{cond-true, cond-false, cond_both, ne_eqb, and_left, and_right, and_from, and_parts, le-leb, lt-leb, leb-true, eq-eqb, cases_Bool, cases_eq, cases_order}
+use Rattle.std.proofs.lemmas.Bool.{cond-true, cond-false, cond_both, ne_eqb, and_left, and_right, and_from, and_parts, le-leb, leb-true, cases_eq, cases_order}
 use Rattle.std.proofs.lemmas.Bool.Decides.{nat_tests}
 use Rattle.std.proofs.lemmas.List.{length-take}
-use Rattle.decimals.specs.Scan.{digits_from, count, past}
 use Rattle.decimals.specs.Numeral.{numeral}
 use Rattle.decimals.specs.Write.{fixed}
 use Rattle.decimals.proofs.Runs.{Below, numeral-fixed, numeral-below}
 use Rattle.refusals.specs.declared.Fault.{Fault}
 use Rattle.refusals.specs.declared.Fault.TheVariants.{WrongEpoch}
-use Rattle.fields.specs.Epoch.{full_year, days_in, epoch_at, epoch_of, read_epoch, moment_of, read_moment, stamp, moment_text, epoch_text, moment_order, epoch_order, Dated, DatedEpoch, EpochsComeBack, MomentsComeBack, days_of, instant, OrderOfTime, EpochsAreOrdered}
+use Rattle.fields.specs.Epoch.{full_year, days_in, epoch_at, epoch_of, read_epoch, moment_of, stamp, epoch_text, moment_order, epoch_order, Dated, DatedEpoch, EpochsComeBack, MomentsComeBack, days_of, instant, OrderOfTime, EpochsAreOrdered}
 use Rattle.fields.specs.declared.epochs.Epoch.{Epoch}
 use Rattle.fields.specs.declared.epochs.Epoch.TheVariants.{Open, At}
 use Rattle.fields.specs.declared.epochs.Moment.{Moment}
-use Rattle.codes.specs.Order.{TotalOrder}
 use Rattle.decimals.proofs.Faults.{no_fault}
 use Rattle.codes.proofs.Comparing.{then_flip, then_trans, both, rank_flip, rank_trans, rank_same, rank_less, rank_equal, rank_greater, not_less, not_equal}
 

@@ -1,5 +1,5 @@
 -- Indices, counts, rows and columns.
-use Rattle.std.specs.Prelude.{◌≡◌, ℕ, ◌^◌, ◌<◌, ◌≤◌, false, List, length, Some, None, Ok, Err, Option, Result}
+use Rattle.std.specs.Prelude.{◌≡◌, ℕ, ◌<◌, ◌≤◌, false, List, length, Some, None, Ok, Err, Option, Result}
 use Rattle.decimals.specs.Scan.{unblank}
 use Rattle.decimals.specs.Numeral.{numeral}
 use Rattle.decimals.specs.Write.{fixed}

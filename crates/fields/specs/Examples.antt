@@ -1,5 +1,5 @@
 -- The worked examples of the rules, as one list.
-use Rattle.std.specs.Prelude.{◌≡◌, ℕ, ◌^◌, true, false, pos, negsuc, Ok, Err, codes}
+use Rattle.std.specs.Prelude.{◌≡◌, ℕ, false, pos, negsuc, Ok, Err, codes}
 use Rattle.std.specs.declared.cmp.Ordering.TheVariants.{Greater}
 use Rattle.decimals.specs.Number.{read_number, read_deviation, zero_number}
 use Rattle.decimals.specs.declared.number.Number.{Number}

@@ -2,7 +2,7 @@ use Rattle.std.proofs.Common.{◌≡◌, ℕ, zero, suc, ◌+◌, ◌-◌, ◌*�
 use native.Mathlib.Nat.{div-add-mod}
 use lib.ListN.{length-replicate}
 use Rattle.std.proofs.lemmas.Bool.{le-leb, eq-eqb, ne_eqb, cases_lt}
-use Rattle.std.proofs.lemmas.List.{take_at, drop_at, take_all, drop_all, take-append-drop, nil_from_length}
+use Rattle.std.proofs.lemmas.List.{take_at, drop_at, take_all, take-append-drop, nil_from_length}
 use Rattle.media.specs.Blocks.{count, zeros, held_by, held, blocks, block_content, block, laid_out}
 
 zeros-replicate : (n : ℕ) → zeros (replicate n 0) ≡ true

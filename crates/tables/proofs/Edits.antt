@@ -1,10 +1,9 @@
 -- Puts and drops on ordered lists. Assumes nothing.
-use Rattle.std.proofs.Common.{◌≡◌, Bool, true, false, ◌⊎◌, List, [], ◌∷◌, Ordering, Less, Equal, Greater, sym, refl, ap, ◌∙◌, subst, inl, inr, ⊎_elim}
-use Rattle.std.specs.Ordering.{ordering_reverse}
+use Rattle.std.proofs.Common.{◌≡◌, Bool, true, false, ◌⊎◌, List, [], ◌∷◌, Ordering, Less, Equal, Greater, sym, refl, ap, ◌∙◌, inl, inr}
 use Rattle.std.proofs.lemmas.Bool.{both_ways}
 use Rattle.tables.specs.Keys.{Order, Above, Rising, by3}
 use Rattle.tables.specs.Lists.{holds, put, without}
-use Rattle.tables.specs.Laws.{Among, PutGives, DropGives, PutLaw, DropLaw, BackLaw}
+use Rattle.tables.specs.Laws.{Among, PutLaw, DropLaw, BackLaw}
 use Rattle.tables.proofs.Orders.{less_not_equal, greater_not_equal, turned, turned_back, own_key}
 
 module _ {R : Type 0} (cmp : R → R → Ordering) (o : Order cmp) where

@@ -4,7 +4,7 @@ use Rattle.std.proofs.lemmas.List.{get_or_default}
 use Rattle.std.proofs.lemmas.Bool.{cases_lt}
 use Rattle.tables.specs.declared.table.Place.{Place}
 use Rattle.tables.specs.declared.table.Place.TheVariants.{Found, Gap}
-use Rattle.tables.specs.Keys.{Order, Above, Rising, by3}
+use Rattle.tables.specs.Keys.{Order, Rising, by3}
 use Rattle.tables.specs.Lists.{place_from, place}
 use Rattle.tables.specs.Rows.{middle, halving, sought}
 use Rattle.tables.specs.Laws.{Tells, SearchLaw}

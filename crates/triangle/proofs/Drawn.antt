@@ -1,12 +1,11 @@
 -- A list of the places of p rows is the rows of its own matrix. Assumes nothing.
 use Rattle.std.proofs.Common.{◌≡◌, ℕ, zero, suc, ◌+◌, ◌-◌, ◌<◌, ◌≤◌, min, max, List, map, length, get_or, sym, refl, ap, ◌∙◌, ⊎_elim, arith}
-use mathlib.Core.Path.{fun_ext}
 use Rattle.std.specs.List.{range_with_len}
 use Rattle.std.proofs.lemmas.List.FromFn.{length-map-range_with_len, get_or-map-range_with_len}
 use Rattle.std.proofs.lemmas.List.{ext_get_or, get_or_append_left, get_or-append_right, length-append}
 use Rattle.std.proofs.lemmas.Bool.{cases_lt}
 use Rattle.triangle.specs.Triangle.{tri, spot, cell, low, rows_of}
-use Rattle.triangle.proofs.Tri.{low_below, below-low, tri_le}
+use Rattle.triangle.proofs.Tri.{low_below, below-low}
 
 -- every place is that of a row and a column
 pub row_and_column : (k : ℕ) → (i : ℕ) × (j : ℕ) × ((j ≤ i) × (k ≡ tri i + j))

@@ -1,21 +1,20 @@
 -- What the elements of a block state, in whatever order they stand. Assumes nothing.
-use Rattle.std.proofs.Common.{◌≡◌, ℕ, zero, suc, ◌+◌, ◌-◌, ◌<◌, ◌≤◌, min, max, Bool, true, false, cond, ◌&&◌, ◌||◌, eqb, leb, ◌⊎◌, List, [], ◌∷◌, ◌++◌, map, length, get_or, drop, Decides, Ordering, Equal, sym, refl, ap, ◌∙◌, subst, inl, inr, ⊎_elim, arith}
+use Rattle.std.proofs.Common.{◌≡◌, ℕ, zero, suc, ◌-◌, ◌<◌, ◌≤◌, min, max, Bool, true, false, cond, ◌&&◌, eqb, leb, ◌⊎◌, List, [], ◌∷◌, ◌++◌, map, length, get_or, drop, Decides, Ordering, Equal, sym, refl, ap, ◌∙◌, subst, inl, inr, ⊎_elim, arith}
 use native.Mathlib.Nat.{max_comm, min_comm}
 use Rattle.std.proofs.lemmas.List.{get_or_append_left, get_or_default, get_or-map, length-map}
 use Rattle.std.proofs.lemmas.Bool.{cases_eq, cases_Bool, cond-true, cond-false, eq-eqb, eqb-true, and_parts, and_from, or_cases, both_ways, leb-true}
 use Rattle.std.proofs.lemmas.Bool.Decides.{same_from_decides, Decides-like}
 use Rattle.tables.specs.declared.table.Place.{Place}
 use Rattle.tables.specs.declared.table.Place.TheVariants.{Found, Gap}
-use Rattle.tables.specs.Keys.{Order, Rising}
-use Rattle.tables.specs.Lists.{place}
+use Rattle.tables.specs.Keys.{Order}
 use Rattle.tables.specs.Rows.{sought, found, found_or, known, used_rows}
 use Rattle.tables.specs.Laws.{Tells}
 use Rattle.tables.proofs.Places.{search_law}
 use Rattle.triangle.specs.declared.row.Element.{Element}
 use Rattle.triangle.specs.declared.row.Side.{Side}
-use Rattle.triangle.specs.Triangle.{same, seen}
+use Rattle.triangle.specs.Triangle.{same}
 use Rattle.triangle.specs.Statements.{rank_in, all_known, counted, inside, on_side, rank_of, free, sound, stated, run, taken}
-use Rattle.triangle.specs.Files.{Symmetric, States, EachStands, OthersStay, Apart, Renumbered, ByIndex, RanksApart, RanksFound, FillApart}
+use Rattle.triangle.specs.Files.{Symmetric, EachStands, OthersStay, Renumbered, ByIndex, RanksApart, RanksFound, FillApart}
 use Rattle.triangle.proofs.States.{stated_zero, stated-at, free_void}
 
 abbrev Pair : ℕ → ℕ → ℕ → ℕ → Type 0

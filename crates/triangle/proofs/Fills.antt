@@ -1,8 +1,7 @@
 -- Steps of the loop that fills the working row. Assumes nothing.
-use Rattle.std.proofs.Common.{◌≡◌, ℕ, ◌+◌, ◌<◌, ◌≤◌, Bool, true, false, cond, ◌&&◌, leb, List, [], ◌∷◌, ◌++◌, map, length, get_or, take, drop, set, replicate, Ok, Err, Result, Ordering, sym, refl, ap, ◌∙◌, arith}
-use Rattle.refusals.specs.declared.Fault.{Fault}
-use Rattle.refusals.specs.declared.Fault.TheVariants.{TableLengths, OutOfStep, RecordAbsent}
-use Rattle.std.proofs.lemmas.List.{append_assoc, drop_all, drop_more, length-map, length-take-le, map_more, set_at, take_all}
+use Rattle.std.proofs.Common.{◌≡◌, ℕ, ◌+◌, ◌<◌, ◌≤◌, Bool, true, false, cond, ◌&&◌, leb, List, [], ◌∷◌, ◌++◌, map, length, get_or, take, drop, set, replicate, Ok, Err, Ordering, sym, ap, ◌∙◌, arith}
+use Rattle.refusals.specs.declared.Fault.TheVariants.{RecordAbsent}
+use Rattle.std.proofs.lemmas.List.{append_assoc, drop_more, length-map, length-take-le, map_more, set_at}
 use Rattle.std.proofs.lemmas.Bool.{cond-true, cond-false, le-leb, and_from}
 use Rattle.tables.specs.Rows.{known}
 use Rattle.triangle.specs.Statements.{rank_in, all_known, fill_answer, fill_row}

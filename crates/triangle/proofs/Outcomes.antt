@@ -1,5 +1,5 @@
 -- What a call that opens or closes a rank leaves, granted or refused. Assumes nothing.
-use Rattle.std.proofs.Common.{◌≡◌, ℕ, Bool, true, false, cond, List, length, sym, refl, ap, ◌∙◌}
+use Rattle.std.proofs.Common.{◌≡◌, ℕ, Bool, true, false, cond, List, length, sym, ap, ◌∙◌}
 use Rattle.std.proofs.lemmas.Bool.{both_ways, cond-true, cond-false}
 use Rattle.triangle.specs.Triangle.{tri, cell, rows_of}
 use Rattle.triangle.proofs.Drawn.{drawn_as}

@@ -1,9 +1,9 @@
 -- The laws of opening and closing a rank. Assumes nothing.
-use Rattle.std.proofs.Common.{◌≡◌, ℕ, zero, suc, ◌+◌, ◌-◌, ◌<◌, ◌≤◌, min, max, Bool, true, false, cond, not, ◌&&◌, ◌||◌, eqb, ltb, leb, ◌≢◌, ◌⊎◌, List, length, get_or, sym, refl, ap, ◌∙◌, inl, inr, ⊎_elim, arith}
+use Rattle.std.proofs.Common.{◌≡◌, ℕ, ◌+◌, ◌-◌, ◌<◌, ◌≤◌, min, max, true, cond, ◌||◌, eqb, leb, refl, ap, ◌∙◌, ⊎_elim, arith}
 use native.Mathlib.Nat.{max_comm, min_comm}
 use Rattle.std.proofs.lemmas.Bool.{and_from, cases_lt, cases_eq, eq-eqb}
 use Rattle.std.proofs.lemmas.Bool.Decides.{nat_tests}
-use Rattle.triangle.specs.Triangle.{tri, spot, cell, same, skip, jump, spread, wiped, opened, closed, rows_of}
+use Rattle.triangle.specs.Triangle.{tri, cell, skip, jump, opened, closed}
 use Rattle.triangle.specs.Laws.{Blank, Places, Moved, Opened, Closed, Undone, Pinned}
 use Rattle.triangle.proofs.Tri.{spot-max, spot-min, low_below}
 use Rattle.triangle.proofs.Drawn.{drawn_as, pinned}

@@ -1,12 +1,12 @@
 -- One element stated, and elements one after another. Assumes nothing.
-use Rattle.std.proofs.Common.{◌≡◌, ℕ, suc, ◌+◌, ◌<◌, ◌≤◌, min, Bool, true, false, cond, not, ◌&&◌, ◌||◌, List, [], ◌∷◌, length, get_or, drop, Ok, Err, Result, sym, refl, ap, ◌∙◌, arith}
+use Rattle.std.proofs.Common.{◌≡◌, ℕ, suc, ◌+◌, ◌<◌, ◌≤◌, min, Bool, true, false, cond, not, ◌&&◌, ◌||◌, List, ◌∷◌, length, get_or, drop, Ok, Err, sym, refl, ap, ◌∙◌, arith}
 use mathlib.Core.Path.{fun_ext}
 use Rattle.std.proofs.lemmas.List.{drop_more, drop_all}
 use Rattle.std.proofs.lemmas.Bool.{and_parts, and_from, cond-true, cond-false}
 use Rattle.triangle.specs.declared.row.Element.{Element}
 use Rattle.triangle.specs.declared.row.Side.{Side}
 use Rattle.triangle.specs.Triangle.{same, seen}
-use Rattle.triangle.specs.Statements.{inside, on_side, rank_of, with_cell, free, sound, stated, run, taken}
+use Rattle.triangle.specs.Statements.{inside, on_side, rank_of, free, sound, stated, run, taken}
 
 or_right : (b c : Bool) → c ≡ true → b || c ≡ true
 or_right true c e = refl

@@ -1,7 +1,7 @@
 -- Places of rows and cells: no two cells share one. Assumes nothing.
-use Rattle.std.proofs.Common.{◌≡◌, ℕ, zero, suc, ◌+◌, ◌-◌, ◌*◌, ◌/◌, ◌<◌, ◌≤◌, min, max, Bool, true, false, cond, ◌&&◌, eqb, ltb, leb, ◌≢◌, ◌⊎◌, List, length, get_or, set, sym, refl, ap, ◌∙◌, inl, inr, ⊎_elim, suc-le-suc, zero-le, suc-mul, mul_comm, mul-suc, add-one, arith}
+use Rattle.std.proofs.Common.{◌≡◌, ℕ, zero, suc, ◌+◌, ◌*◌, ◌/◌, ◌<◌, ◌≤◌, min, max, true, false, cond, eqb, ltb, leb, List, length, get_or, set, sym, refl, ap, ◌∙◌, ⊎_elim, suc-mul, mul-suc, add-one, arith}
 use native.Mathlib.Nat.{max_comm, min_comm}
-use Rattle.std.proofs.lemmas.Bool.{cases_lt, cases_order, cases_eq, eq-eqb, ne_eqb, cond-false, and_left, and_right, and_parts, and_from, leb-true, ltb-true, le-leb}
+use Rattle.std.proofs.lemmas.Bool.{cases_lt, cases_order, cases_eq, eq-eqb, ne_eqb, cond-false, and_left, and_right, and_parts, leb-true, ltb-true}
 use Rattle.std.proofs.lemmas.List.{get_or-set_same, get_or-set_other}
 use Rattle.std.proofs.lemmas.Nat.{mul-le}
 use Rattle.triangle.specs.Triangle.{tri, spot, cell, low, same, holds, openable, closable}

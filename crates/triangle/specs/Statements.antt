@@ -1,9 +1,9 @@
 -- The working row, and what the elements of a matrix block do to a matrix. A file's indices count from 1, ranks from 0.
-use Rattle.std.specs.Prelude.{ℕ, suc, ◌+◌, ◌-◌, min, Bool, true, cond, not, ◌&&◌, ◌||◌, List, [], ◌∷◌, ◌++◌, map, length, drop, replicate, Ok, Err, Result, nat_le, slice_index}
+use Rattle.std.specs.Prelude.{ℕ, suc, ◌-◌, min, Bool, true, cond, ◌&&◌, ◌||◌, List, [], ◌∷◌, ◌++◌, map, length, drop, replicate, Ok, Err, Result, nat_le, slice_index}
 use Rattle.std.specs.declared.cmp.Ordering.{Ordering}
 use Rattle.refusals.specs.declared.Fault.{Fault}
 use Rattle.refusals.specs.declared.Fault.TheVariants.{TableLengths, OutOfStep, RecordAbsent}
-use Rattle.tables.specs.Rows.{sought, found, found_or, known, used_rows}
+use Rattle.tables.specs.Rows.{sought, found_or, known, used_rows}
 use Rattle.triangle.specs.declared.row.Element.{Element}
 use Rattle.triangle.specs.declared.row.Side.{Side}
 use Rattle.triangle.specs.declared.row.Side.TheVariants.{Lower, Upper}

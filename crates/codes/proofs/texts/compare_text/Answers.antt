@@ -1,4 +1,4 @@
-use Rattle.std.proofs.Common.{◌≡◌, ◌<◌, ◌≤◌, length, get_or, sym, ◌∙◌, arith}
+use Rattle.std.proofs.Common.{sym, ◌∙◌, arith}
 use Rattle.codes.proofs.Comparing.{lex_less, lex_greater, lex_next, lex-long, lex_short, lex-end}
 use Rattle.codes.proofs.texts.compare_text.Goals as goal
 

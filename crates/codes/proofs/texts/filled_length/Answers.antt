@@ -1,4 +1,4 @@
-use Rattle.std.proofs.Common.{◌≡◌, length, sym, ap, ◌∙◌, arith}
+use Rattle.std.proofs.Common.{sym, ◌∙◌, arith}
 use Rattle.codes.proofs.Words.{filled_more, filled-end}
 use Rattle.codes.proofs.texts.filled_length.Goals as goal
 

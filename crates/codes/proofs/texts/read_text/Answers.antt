@@ -1,4 +1,4 @@
-use Rattle.std.proofs.Common.{◌≡◌, ℕ, ◌-◌, ◌<◌, ◌≤◌, length, take, Ok, sym, ap, ◌∙◌, arith}
+use Rattle.std.proofs.Common.{◌≡◌, ◌-◌, length, take, Ok, sym, ap, ◌∙◌, arith}
 use Rattle.decimals.specs.Number.{blank}
 use Rattle.decimals.specs.Scan.{unblank}
 use Rattle.codes.specs.Text.{word, padded}

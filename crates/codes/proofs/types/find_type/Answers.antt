@@ -1,4 +1,4 @@
-use Rattle.std.proofs.Common.{◌≡◌, sym, ◌∙◌, arith}
+use Rattle.std.proofs.Common.{sym, ◌∙◌, arith}
 use Rattle.codes.proofs.TypeTable.{look-found, look_more, look_none}
 use Rattle.codes.proofs.types.find_type.Goals as goal
 

@@ -1,7 +1,7 @@
-use Rattle.std.proofs.Common.{◌≡◌, ℕ, ◌+◌, ◌-◌, ◌*◌, ◌^◌, ◌<◌, ◌≤◌, true, false, length, pos, neg_ℤ, Some, sym, ap, ◌∙◌, arith}
+use Rattle.std.proofs.Common.{◌≡◌, true, length, pos, neg_ℤ, Some, sym, ap, ◌∙◌, arith}
 use Rattle.std.proofs.lemmas.Int.{ints}
 use Rattle.std.proofs.lemmas.Bool.{cond-true, cond-false}
-use Rattle.decimals.specs.Scan.{digits_from, count, past}
+use Rattle.decimals.specs.Scan.{digits_from, past}
 use Rattle.decimals.specs.Number.{blank, signed}
 use Rattle.decimals.proofs.Powers.{ten_mono}
 use Rattle.decimals.proofs.Forms.{exponent_yes, two_digits, negated, kept}

@@ -1,7 +1,7 @@
-use Rattle.std.proofs.Common.{◌≡◌, ℕ, ◌<◌, ◌≤◌, ℤ, pos, negsuc, ◌-ℤ◌, ◌≤ℤ◌, Some, None, sym, refl, ap, ◌∙◌, subst, arith, w32, to_z, of_z}
+use Rattle.std.proofs.Common.{◌≡◌, ℕ, ◌≤◌, ℤ, pos, negsuc, ◌-ℤ◌, ◌≤ℤ◌, Some, None, sym, ap, ◌∙◌, arith, w32, to_z, of_z}
 use Rattle.std.proofs.lemmas.Int.{ints}
 use Rattle.decimals.specs.Scan.{unblank, minus, unsigned}
-use Rattle.decimals.specs.Number.{digits_of_text, said, said_by, exponent, number_of, scaled}
+use Rattle.decimals.specs.Number.{digits_of_text, said_by, exponent, number_of, scaled}
 use Rattle.decimals.proofs.Reading.{read_at-long, read_at-said, said_by-some, said_by_empty, said_by-none}
 use Rattle.decimals.proofs.reads.read_at.Goals as goal
 

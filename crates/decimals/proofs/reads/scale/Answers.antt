@@ -1,8 +1,8 @@
-use Rattle.std.proofs.Common.{◌≡◌, ℕ, ◌+◌, ◌*◌, ◌/◌, ◌^◌, ◌<◌, ◌≤◌, ℤ, pos, negsuc, ◌+ℤ◌, ◌-ℤ◌, ◌≤ℤ◌, sym, ap, ◌∙◌, mul-le-mul_right, arith, w32, to_z, of_z}
+use Rattle.std.proofs.Common.{◌≡◌, ℕ, ◌*◌, ◌/◌, ◌^◌, ◌<◌, ◌≤◌, pos, negsuc, ◌+ℤ◌, ◌-ℤ◌, ◌≤ℤ◌, sym, ap, ◌∙◌, mul-le-mul_right, arith, w32, to_z, of_z}
 use native.Mathlib.Nat.{div-le_of_le-mul}
 use Rattle.std.proofs.lemmas.Nat.{mul-le}
 use Rattle.std.proofs.lemmas.Int.{ints}
-use Rattle.decimals.specs.Number.{size, Said, fitted}
+use Rattle.decimals.specs.Number.{Said, fitted}
 use Rattle.decimals.proofs.Scaling.{scaled_zero, scaled_fits, top_of}
 use Rattle.decimals.proofs.reads.scale.Goals as goal
 

@@ -1,7 +1,7 @@
-use Rattle.std.proofs.Common.{◌≡◌, ◌+◌, ◌*◌, ◌^◌, ◌<◌, ◌≤◌, sym, ap, ◌∙◌, arith}
+use Rattle.std.proofs.Common.{◌≡◌, ◌*◌, ◌^◌, sym, ap, ◌∙◌, arith}
 use Rattle.decimals.specs.Number.{size}
 use Rattle.decimals.proofs.Powers.{ten_more}
-use Rattle.decimals.proofs.Sizes.{size_ge, size_le, size_above}
+use Rattle.decimals.proofs.Sizes.{size_ge, size_le}
 use Rattle.decimals.proofs.reads.size_of.Goals as goal
 
 pub overflow_add-count : goal.overflow_add-count

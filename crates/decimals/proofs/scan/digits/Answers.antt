@@ -1,6 +1,6 @@
-use Rattle.std.proofs.Common.{◌≡◌, ℕ, ◌+◌, ◌-◌, ◌*◌, ◌^◌, ◌<◌, ◌≤◌, true, false, ◌⊎◌, length, get_or, take, drop, sym, ap, ◌∙◌, inl, inr, le_trans, arith, length-drop}
+use Rattle.std.proofs.Common.{◌≡◌, ◌-◌, ◌^◌, ◌<◌, ◌≤◌, true, false, ◌⊎◌, length, get_or, take, drop, sym, ap, ◌∙◌, inl, inr, le_trans, arith, length-drop}
 use Rattle.std.proofs.lemmas.List.{take_rest}
-use Rattle.decimals.specs.Scan.{is_digit, digits_from, count, past}
+use Rattle.decimals.specs.Scan.{is_digit}
 use Rattle.decimals.proofs.Powers.{room, digit_more}
 use Rattle.decimals.proofs.Fronts.{digit_yes, digit_low, digit_high, digits_from_yes, count_yes, past_yes, stopped}
 use Rattle.decimals.proofs.scan.digits.Goals as goal

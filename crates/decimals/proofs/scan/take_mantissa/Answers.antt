@@ -1,7 +1,6 @@
-use Rattle.std.proofs.Common.{◌≡◌, ℕ, ◌+◌, ◌-◌, ◌*◌, ◌^◌, ◌<◌, ◌≤◌, length, get_or, take, drop, sym, ap, ◌∙◌, le_trans, mul-le-mul_left, arith, length-drop}
+use Rattle.std.proofs.Common.{◌≡◌, ℕ, ◌+◌, ◌-◌, ◌*◌, ◌^◌, ◌<◌, ◌≤◌, length, get_or, sym, ap, ◌∙◌, le_trans, mul-le-mul_left, arith, length-drop}
 use Rattle.std.proofs.lemmas.List.{take_rest}
-use Rattle.decimals.specs.Number.{Digits, after_whole, digits_of_text}
-use Rattle.decimals.specs.Scan.{digits_from, count, past}
+use Rattle.decimals.specs.Number.{after_whole, digits_of_text}
 use Rattle.decimals.proofs.Powers.{ten_mono, ten_pos}
 use Rattle.decimals.proofs.Forms.{tail, point_yes, point_no}
 use Rattle.decimals.proofs.scan.take_mantissa.Goals as goal

@@ -1,4 +1,4 @@
-use Rattle.std.proofs.Common.{◌≡◌, sym, ◌∙◌, inl, inr, arith}
+use Rattle.std.proofs.Common.{sym, ◌∙◌, inl, inr, arith}
 use Rattle.decimals.proofs.Runs.{blanked_more, blanked_stop}
 use Rattle.decimals.proofs.writes.blank_zeros.Goals as goal
 

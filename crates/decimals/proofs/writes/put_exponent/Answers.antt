@@ -1,4 +1,4 @@
-use Rattle.std.proofs.Common.{◌≡◌, cond, ◌∷◌, length, take, drop, set, pos, nat_abs, sym, ap, ◌∙◌, arith, length-drop, length-set, length-take, w32, to_z, of_z}
+use Rattle.std.proofs.Common.{◌≡◌, cond, ◌∷◌, length, take, drop, set, pos, nat_abs, ap, ◌∙◌, arith, length-drop, length-set, length-take, w32, to_z, of_z}
 use lib.Signed.{lt_z}
 use Rattle.std.proofs.lemmas.Int.{ints}
 use Rattle.decimals.specs.Write.{fixed, below}

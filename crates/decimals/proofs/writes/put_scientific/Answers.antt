@@ -1,8 +1,8 @@
-use Rattle.std.proofs.Common.{◌≡◌, ℕ, suc, ◌+◌, ◌-◌, ◌/◌, ◌%◌, ◌^◌, cond, List, ◌∷◌, ◌++◌, length, take, drop, pos, nat_abs, sym, ap, ◌∙◌, arith, w32, to_z, of_z}
+use Rattle.std.proofs.Common.{◌≡◌, ℕ, suc, ◌+◌, ◌-◌, ◌/◌, ◌%◌, ◌^◌, cond, List, ◌∷◌, ◌++◌, length, take, drop, nat_abs, ap, ◌∙◌, arith, w32, to_z, of_z}
 use borrow.Rule.Slice.PartMut.{put_mid}
 use Rattle.std.proofs.lemmas.List.{length-append, length-drop, length-take-le}
 use Rattle.std.proofs.lemmas.Int.{ints}
-use Rattle.decimals.specs.Write.{fixed, below, digits_text}
+use Rattle.decimals.specs.Write.{fixed, below}
 use Rattle.decimals.proofs.Fixed.{exponent-put, scientific}
 use Rattle.decimals.proofs.writes.put_scientific.Goals as goal
 

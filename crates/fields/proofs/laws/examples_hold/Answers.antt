@@ -1,4 +1,4 @@
-use Rattle.std.proofs.Common.{◌≡◌, ℕ, ◌^◌, true, false, pos, negsuc, codes, refl, ap, lit<, lit≤}
+use Rattle.std.proofs.Common.{◌^◌, false, pos, negsuc, codes, refl, ap, lit<, lit≤}
 use Rattle.decimals.specs.Number.{read_at, scaled, deviation_of}
 use Rattle.decimals.proofs.Reading.{read_by}
 use Rattle.fields.specs.Angle.{read_latitude}

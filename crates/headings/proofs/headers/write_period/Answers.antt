@@ -1,4 +1,4 @@
-use Rattle.std.proofs.Common.{[], ◌∷◌, refl, ap, ◌∙◌}
+use Rattle.std.proofs.Common.{[], ◌∷◌, refl, ◌∙◌}
 use Rattle.headings.specs.Copies.{blanks, period_parts}
 use Rattle.headings.proofs.Parts.{same-joined}
 use Rattle.headings.proofs.headers.write_period.Goals as goal

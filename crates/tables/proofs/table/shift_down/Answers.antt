@@ -1,4 +1,4 @@
-use Rattle.std.proofs.Common.{◌≡◌, ◌+◌, ◌-◌, ◌<◌, length, take, drop, sym, refl, ap, ◌∙◌, arith}
+use Rattle.std.proofs.Common.{◌+◌, ◌<◌, length, take, drop, ap, ◌∙◌, arith}
 use Rattle.tables.proofs.Shifts.{fall_take, fall_drop, fall_end}
 use Rattle.tables.proofs.table.shift_down.Goals as goal
 

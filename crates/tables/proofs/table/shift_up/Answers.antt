@@ -1,4 +1,4 @@
-use Rattle.std.proofs.Common.{◌≡◌, ◌+◌, ◌-◌, ◌≤◌, length, take, drop, sym, refl, ap, ◌∙◌, arith}
+use Rattle.std.proofs.Common.{◌≡◌, ◌+◌, ◌-◌, ◌≤◌, length, take, drop, refl, ap, ◌∙◌, arith}
 use Rattle.tables.proofs.Shifts.{rise_start, rise_take, rise_drop, rise_end}
 use Rattle.tables.proofs.table.shift_up.Goals as goal
 

@@ -1,5 +1,4 @@
-use Rattle.std.proofs.Common.{◌≡◌, ◌<◌, Bool, true, cond, ◌&&◌, length, set, sym, ap, ◌∙◌, arith}
-use Rattle.refusals.specs.declared.Fault.TheVariants.{WrongCell}
+use Rattle.std.proofs.Common.{◌≡◌, ◌<◌, true, cond, ◌&&◌, length, set, sym, ap, ◌∙◌, arith}
 use Rattle.std.proofs.lemmas.Bool.{cond-true}
 use Rattle.std.proofs.lemmas.Bool.Decides.{nat_tests}
 use Rattle.triangle.specs.Triangle.{spot, cell, same, seen}

@@ -1,6 +1,6 @@
-use Rattle.std.proofs.Common.{◌≡◌, suc, ◌+◌, ◌-◌, ◌≤◌, ap, arith}
+use Rattle.std.proofs.Common.{◌≡◌, suc, ◌-◌, arith}
 use Rattle.std.proofs.lemmas.Bool.Decides.{nat_tests}
-use Rattle.triangle.specs.Triangle.{tri, low, skip}
+use Rattle.triangle.specs.Triangle.{low}
 use Rattle.triangle.proofs.Tri.{tri_le}
 use Rattle.triangle.proofs.Lifts.{lifts_step, spread_from_low}
 use Rattle.triangle.proofs.moves.lift.Goals as goal

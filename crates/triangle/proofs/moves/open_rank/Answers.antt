@@ -1,4 +1,4 @@
-use Rattle.std.proofs.Common.{◌≡◌, Bool, cond, length, sym, refl, ap, ◌∙◌, arith}
+use Rattle.std.proofs.Common.{cond, length, sym, refl, ap, ◌∙◌, arith}
 use Rattle.std.proofs.lemmas.Bool.{cond-true, cond-false}
 use Rattle.triangle.specs.Triangle.{cell, fresh, opened, openable}
 use Rattle.triangle.proofs.Tri.{openable-parts}

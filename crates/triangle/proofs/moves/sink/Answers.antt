@@ -1,6 +1,6 @@
 use Rattle.std.proofs.Common.{◌≡◌, suc, ◌-◌, arith}
 use Rattle.std.proofs.lemmas.Bool.Decides.{nat_tests}
-use Rattle.triangle.specs.Triangle.{tri, low}
+use Rattle.triangle.specs.Triangle.{low}
 use Rattle.triangle.proofs.Tri.{tri_le}
 use Rattle.triangle.proofs.Lifts.{sinks_step}
 use Rattle.triangle.proofs.moves.sink.Goals as goal

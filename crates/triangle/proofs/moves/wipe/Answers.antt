@@ -1,5 +1,5 @@
 use Rattle.std.proofs.Common.{suc, arith}
-use Rattle.triangle.specs.Triangle.{tri, low}
+use Rattle.triangle.specs.Triangle.{low}
 use Rattle.triangle.proofs.Tri.{tri_le}
 use Rattle.triangle.proofs.Lifts.{wiped_from_low}
 use Rattle.triangle.proofs.moves.wipe.Goals as goal

@@ -1,8 +1,8 @@
-use Rattle.std.proofs.Common.{◌≡◌, ℕ, Bool, true, false, length, sym, refl, ap, ◌∙◌, arith}
+use Rattle.std.proofs.Common.{◌≡◌, ℕ, true, false, length, sym, refl, ap, ◌∙◌, arith}
 use Rattle.refusals.specs.declared.Fault.TheVariants.{WrongCell}
 use Rattle.std.proofs.lemmas.Bool.{cond-true, cond-false}
 use Rattle.triangle.specs.Triangle.{cell}
-use Rattle.triangle.specs.Statements.{sound, stated}
+use Rattle.triangle.specs.Statements.{sound}
 use Rattle.triangle.proofs.States.{ok_true, err_false, left_more, left_stop, left_all}
 use Rattle.triangle.proofs.row.state_all.Goals as goal
 

@@ -1,7 +1,7 @@
-use Rattle.std.proofs.Common.{◌≡◌, Bool, true, cond, not, ◌&&◌, length, set, sym, refl, ap, ◌∙◌}
-use Rattle.std.proofs.lemmas.Bool.{cond-true, cond-false}
-use Rattle.triangle.specs.Triangle.{spot, cell, same, seen}
-use Rattle.triangle.specs.Statements.{rank_of, free, sound, stated}
+use Rattle.std.proofs.Common.{cond, ◌&&◌, length, sym, ap, ◌∙◌}
+use Rattle.std.proofs.lemmas.Bool.{cond-true}
+use Rattle.triangle.specs.Triangle.{cell, same}
+use Rattle.triangle.specs.Statements.{rank_of, sound}
 use Rattle.triangle.proofs.States.{free_seen, free-sound, free_new, stated-at}
 use Rattle.triangle.proofs.row.state_cell.Goals as goal
 
