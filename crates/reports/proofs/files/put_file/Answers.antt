@@ -6,17 +6,17 @@ use Rattle.reports.proofs.files.put_file.Goals as goal
 use Rattle.reports.specs.FileReport.{after_header, header_in, header_line}
 use Rattle.reports.specs.FrameReport.{block_lines, last_line}
 
-pub returns-in-ok-put-blocks : goal.returns-in-ok-put-blocks
-returns-in-ok-put-blocks g c =
+pub returns-in_ok-put_blocks-in-Ok : goal.returns-in_ok-put_blocks-in-Ok
+returns-in_ok-put_blocks-in-Ok g c =
     let cs = g.S.Source.content c.args.source.now in
     let f = c.args.frame.now in
-    added_after c.put-last.result (vec_items c.args.out.now) _ _ _ (header_line (c.in-Ok.header, c.in-Ok.count)) _ (last_line f.lines) _
-    c.in-ok-put-header.ensures c.in-ok-put-blocks.ensures c.put-last.ensures
+    added_after c.put_last.result (vec_items c.args.out.now) _ _ _ (header_line (c.in-Ok.header, c.in-Ok.count)) _ (last_line f.lines) _
+    c.in_ok-put_header-in-Ok.ensures c.in_ok-put_blocks-in-Ok.ensures c.put_last.ensures
     (ap (λ (bs : List Block). header_line (c.in-Ok.header, c.in-Ok.count) ++ (block_lines cs bs ++ last_line f.lines)) c.front-blocks.ensures
     ∙ ap (after_header cs f) (c.in-Ok.ensures ∙ ap (header_in cs) c.front-blocks.ensures))
 
 pub returns-in-Err : goal.returns-in-Err
 returns-in-Err g c =
     let cs = g.S.Source.content c.args.source.now in
-    added c.extend-from-slice.result (vec_items c.args.out.now) _ _ _ c.extend-from-slice.ensures.items
-    (c.refusal-line.ensures ∙ ap (after_header cs c.args.frame.now) (c.in-Err.ensures ∙ ap (header_in cs) c.front-blocks.ensures))
+    added c.extend_from_slice.result (vec_items c.args.out.now) _ _ _ c.extend_from_slice.ensures.items
+    (c.refusal_line.ensures ∙ ap (after_header cs c.args.frame.now) (c.in-Err.ensures ∙ ap (header_in cs) c.front-blocks.ensures))

@@ -4,5 +4,5 @@ use Rattle.std.proofs.Common.{◌≡◌, ◌++◌, vec_items, codes, ◌∙◌}
 
 pub returns : goal.returns
 returns g c =
-    let word : vec_items c.extend-from-slice.new.self ≡ vec_items c.args.out.now ++ codes "BLOCK " = granted c.extend-from-slice.result _ _ _ _ c.in-ok-extend-from-slice.was c.extend-from-slice.ensures.items in
-    added_third c.extend-from-slice-2.result (vec_items c.args.out.now) _ _ _ (codes "BLOCK ") _ _ _ word c.in-ok-put-title.ensures c.extend-from-slice-2.ensures.items (c.as-bytes.ensures.value ∙ c.in-ok-tail.ensures)
+    let word : vec_items c.extend_from_slice.new.self ≡ vec_items c.args.out.now ++ codes "BLOCK " = granted c.extend_from_slice.result _ _ _ _ c.in_ok-extend_from_slice.was c.extend_from_slice.ensures.items in
+    added_third c.extend_from_slice-2.result (vec_items c.args.out.now) _ _ _ (codes "BLOCK ") _ _ _ word c.in_ok-put_title.ensures c.extend_from_slice-2.ensures.items (c.as_bytes.ensures.value ∙ c.in_ok-tail.ensures)

@@ -9,4 +9,4 @@ pub returns-in-Fit : goal.returns-in-Fit
 returns-in-Fit g c =
     let line = c.in-Fit.line in
     let title : title_words (fetched (drop c.args.at (g.S.Source.content c.args.source.now))) ≡ squeezed (columns 1 79 line) = ap title_words (sym c.fetch.ensures ∙ c.in-Fit.is) in
-    added c.extend-from-slice.result _ _ _ _ c.extend-from-slice.ensures.items (c.front.ensures ∙ (words_of c.heading-heading.result line c.heading-heading.ensures ∙ sym title))
+    added c.extend_from_slice.result _ _ _ _ c.extend_from_slice.ensures.items (c.front.ensures ∙ (words_of c.heading-heading.result line c.heading-heading.ensures ∙ sym title))

@@ -1,4 +1,4 @@
 use Rattle.reports.proofs.refusal.refusal_line.Goals as goal
 
 pub returns : goal.returns
-returns c = simp (c.put-digits.ensures, c.put-digits-2.ensures, c.number.ensures)
+returns c = simp (c.put_digits.ensures, c.put_digits-2.ensures, c.number.ensures)
