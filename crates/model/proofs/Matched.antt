@@ -1,8 +1,8 @@
 -- Lists whose keys rise and that are equal in any order are equal.
-use Rattle.std.proofs.Common.{◌≡◌, ℕ, zero, suc, ◌<◌, ◌⊎◌, List, [], ◌∷◌, length, get_or, Ordering, Less, Equal, Greater, sym, refl, ap, ◌∙◌, subst, ap₂, inl, inr, ⊎_elim, arith}
+use Rattle.std.proofs.Common.{◌≡◌, ℕ, zero, suc, ◌<◌, List, [], ◌∷◌, length, get_or, Ordering, Less, Greater, sym, refl, ap, ◌∙◌, subst, ap₂, inl, inr, ⊎_elim, arith}
 use Rattle.model.specs.Pairings.{Pairing}
 use Rattle.std.specs.Ordering.{ordering_reverse}
-use Rattle.tables.specs.Keys.{Above, Order, Rising}
+use Rattle.tables.specs.Keys.{Order, Rising}
 use Rattle.tables.specs.Laws.{Among}
 
 among_at : {R : Type 0} (d : R) (xs : List R) (i : ℕ) → i < length xs → Among (get_or xs i d) xs

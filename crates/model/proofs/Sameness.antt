@@ -1,5 +1,5 @@
 -- Being the same solution.
-use Rattle.std.proofs.Common.{◌≡◌, ℕ, ◌+◌, ◌<◌, ◌≤◌, min, max, List, length, sym, refl, ap, ◌∙◌, subst, ap₂, inl, inr, arith}
+use Rattle.std.proofs.Common.{◌≡◌, ℕ, ◌<◌, ◌≤◌, max, List, length, sym, refl, ap, ◌∙◌, subst, ap₂, inl, inr, arith}
 use Rattle.decimals.specs.Number.{zero_number}
 use Rattle.decimals.specs.declared.number.Number.{Number}
 use Rattle.model.proofs.Matched.{paired_equal, paired_places, pairing_refl, pairing_sym, pairing_trans}
@@ -8,7 +8,6 @@ use Rattle.records.specs.KeyOrders.{parameter_order_lem, site_order_lem, span_or
 use Rattle.records.specs.Parameters.{parameter_order}
 use Rattle.records.specs.Sites.{site_order}
 use Rattle.records.specs.Spans.{span_order}
-use Rattle.records.specs.declared.parameters.Parameter.{Parameter}
 use Rattle.std.proofs.lemmas.List.{get_or_past}
 use Rattle.std.proofs.lemmas.Bool.{cases_lt}
 use Rattle.triangle.proofs.Drawn.{pinned}

@@ -3,7 +3,7 @@ use Rattle.std.specs.Prelude.{◌≡◌, ℕ, true, false, cond, ◌||◌, List,
 use Rattle.decimals.specs.Number.{zero_number}
 use Rattle.decimals.specs.declared.number.Number.{Number}
 use Rattle.model.specs.Cells.{look, same_key, same_pair}
-use Rattle.model.specs.Edits.{Call, Drop, Put, SetCell, drop_site, drop_span, estimate_named, outcome, with_sites, with_spans}
+use Rattle.model.specs.Edits.{Drop, Put, SetCell, drop_site, drop_span, estimate_named, outcome, with_sites, with_spans}
 use Rattle.model.specs.Handed.{cell_number}
 use Rattle.model.specs.Solutions.{Same, Solution}
 use Rattle.model.specs.States.{Kept, NeedsMet, Stands, State}

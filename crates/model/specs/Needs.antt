@@ -10,7 +10,7 @@ use Rattle.records.specs.declared.keys.SiteKey.{SiteKey}
 use Rattle.records.specs.declared.keys.SolutionKey.{SolutionKey}
 use Rattle.records.specs.declared.parameters.Parameter.{Parameter}
 use Rattle.records.specs.declared.spans.Span.{Span}
-use Rattle.std.specs.Prelude.{Bool, true, false, not, ◌&&◌, ◌||◌, List, [], ◌∷◌, Some, None, Option}
+use Rattle.std.specs.Prelude.{Bool, false, not, ◌&&◌, ◌||◌, List, [], ◌∷◌, Some, None, Option}
 use Rattle.tables.specs.Lists.{holds}
 
 abbrev pub stationed_by : Option ParameterType → Bool

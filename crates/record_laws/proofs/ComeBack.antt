@@ -1,10 +1,9 @@
 -- What is written of a valid record is read as it was. Assumes nothing.
-use Rattle.std.proofs.Common.{◌≡◌, ℕ, ◌<◌, List, [], ◌∷◌, length, get_or, ℤ, Some, None, Ok, Option, Result, sym, refl, ap, ◌∙◌, subst}
+use Rattle.std.proofs.Common.{◌≡◌, ℕ, ◌<◌, List, [], ◌∷◌, length, get_or, ℤ, Some, None, Ok, Option, sym, refl, ap, ◌∙◌, subst}
 use Rattle.decimals.specs.Write.{Canonical}
 use Rattle.decimals.specs.declared.number.Number.{Number}
 use Rattle.headings.specs.Elements.{read_place, read_elements, place_parts, place_text, single_parts, single_text, matrix_parts, matrix_text}
 use Rattle.record_laws.specs.MatrixLaws.{CellsComeBack}
-use Rattle.refusals.specs.declared.Fault.{Fault}
 use Rattle.codes.specs.Codes.{read_technique, technique_letter}
 use Rattle.codes.specs.Text.{read_text, read_description, check_blank}
 use Rattle.codes.specs.declared.letters.Technique.{Technique}
@@ -14,7 +13,7 @@ use Rattle.fields.proofs.Columns.{widths_are_exact}
 use Rattle.fields.proofs.Degrees.{longitudes_come_back, latitudes_come_back, heights_come_back}
 use Rattle.records.specs.Copies.{site_key_parts, site_key_text, solution_key_parts, solution_key_text, position_parts, position_text, site_parts, site_text}
 use Rattle.records.specs.Keys.{read_site_key, read_solution_key}
-use Rattle.records.specs.Sites.{read_position, read_site}
+use Rattle.records.specs.Sites.{read_position}
 use Rattle.record_laws.specs.Valid.{SitesComeBack, ValidSiteKey, ValidSolutionKey, ValidPosition, ValidSite}
 use Rattle.records.specs.declared.keys.SiteKey.{SiteKey}
 use Rattle.records.specs.declared.keys.SolutionKey.{SolutionKey}
@@ -39,7 +38,7 @@ use Rattle.headings.specs.Headers.{read_agencies, read_period, check_letter, che
 use Rattle.headings.specs.Lines.{and_then}
 use Rattle.records.specs.Copies.{span_key_parts, span_key_text, epochs_parts, epochs_text, span_parts, span_text, parameter_key_parts, parameter_key_text, measure_parts, measure_text, unit_in, unit_of, parameter_parts, parameter_text}
 use Rattle.records.specs.Parameters.{read_parameter_key, read_measure, read_parameter, read_index}
-use Rattle.records.specs.Spans.{read_span_key, read_epochs, read_span}
+use Rattle.records.specs.Spans.{read_span_key, read_epochs}
 use Rattle.record_laws.specs.Valid.{ValidSpan, ValidParameterKey, ValidParameter, ValidHeader, SpansComeBack, ParametersComeBack, HeadersComeBack}
 use Rattle.headings.specs.declared.headers.Header.{Header}
 use Rattle.records.specs.declared.parameters.ParameterKey.{ParameterKey}

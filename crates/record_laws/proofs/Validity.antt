@@ -27,14 +27,14 @@ use Rattle.record_laws.specs.MatrixLaws.{ValidElement, ValidMatrixLine, MatrixLi
 use Rattle.headings.specs.declared.headers.CountColumns.{CountColumns}
 use Rattle.headings.specs.declared.headers.CountColumns.TheVariants.{Read, Ignored}
 use Rattle.headings.specs.Headers.{read_agencies, read_period, read_counted, check_letters, read_header_by}
-use Rattle.records.specs.Parameters.{read_parameter_key, read_measure, read_parameter}
-use Rattle.records.specs.Spans.{read_span_key, read_epochs, read_span}
+use Rattle.records.specs.Parameters.{read_parameter_key, read_measure}
+use Rattle.records.specs.Spans.{read_span_key, read_epochs}
 use Rattle.record_laws.specs.Valid.{ValidSpan, ValidParameterKey, ValidParameter, ValidHeader, SpansAreValid, ParametersAreValid, HeadersAreValid}
 use Rattle.headings.specs.declared.headers.Header.{Header}
 use Rattle.headings.specs.Lines.{and_then}
 use Rattle.records.specs.declared.spans.SpanKey.{SpanKey}
 use Rattle.records.specs.Keys.{read_site_key, read_solution_key}
-use Rattle.records.specs.Sites.{read_position, read_site}
+use Rattle.records.specs.Sites.{read_position}
 use Rattle.record_laws.specs.Valid.{Gives, Printable, KeptText, KeptDescription, ValidSiteKey, ValidSolutionKey, ValidPosition, ValidSite, SitesAreValid}
 
 -- a step of a line: what holds after every answer of the first field holds after both

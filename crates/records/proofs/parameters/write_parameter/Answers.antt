@@ -1,4 +1,4 @@
-use Rattle.std.proofs.Common.{[], ◌∷◌, refl, ap, ◌∙◌}
+use Rattle.std.proofs.Common.{[], ◌∷◌, refl, ◌∙◌}
 use Rattle.headings.specs.Copies.{blanks}
 use Rattle.headings.proofs.Parts.{same-joined}
 use Rattle.records.specs.Copies.{parameter_parts}
