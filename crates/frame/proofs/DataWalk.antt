@@ -1,17 +1,17 @@
 -- The walk over data lines, byte place by byte place.
-use Rattle.std.proofs.Common.{◌≡◌, ℕ, ◌+◌, ◌-◌, ◌<◌, ◌≤◌, Bool, true, false, cond, leb, List, [], ◌∷◌, length, drop, Some, None, Option, sym, refl, ap, ◌∙◌, subst, inl, inr, arith}
-use Rattle.frame.proofs.Turns.{read, read_bound, lines_cons, nil_lines}
-use Rattle.frame.specs.DataLines.{Walked, walked, walk_by, stay, walkable, walked_from, data_from, data_by, data_at, before, Yields}
+use Rattle.std.proofs.Common.{◌≡◌, ℕ, ◌+◌, ◌-◌, ◌≤◌, leb, List, [], ◌∷◌, length, drop, Some, None, Option, sym, refl, ap, ◌∙◌, subst, inl, inr, arith}
+use Rattle.frame.proofs.Turns.{read, lines_cons}
+use Rattle.frame.specs.DataLines.{Walked, walked, walk_by, stay, walked_from, data_from, data_by, data_at, before, Yields}
 use Rattle.frame.specs.Lines.{lines, first_line, fits, line_of, fetched, passed, kind_of}
 use Rattle.frame.specs.declared.data.DataLine.{DataLine}
 use Rattle.frame.specs.declared.line.Fetched.{Fetched}
-use Rattle.frame.specs.declared.line.Fetched.TheVariants.{End as NoLine, Unfit, Fit}
+use Rattle.frame.specs.declared.line.Fetched.TheVariants.{Fit}
 use Rattle.frame.specs.declared.line.Line.{Line}
 use Rattle.frame.specs.declared.line.LineKind.{LineKind}
 use Rattle.frame.specs.declared.line.LineKind.TheVariants.{Bound, Comment, Title, End, Data}
 use Rattle.frame.specs.declared.place.Place.{Place}
-use Rattle.std.proofs.lemmas.List.{at_drop_all, drop-drop}
-use Rattle.std.proofs.lemmas.Bool.{cond-true, cond-false, cases_Bool, cases_lt, and_parts, and_from, le-leb, leb-true}
+use Rattle.std.proofs.lemmas.List.{drop-drop}
+use Rattle.std.proofs.lemmas.Bool.{cond-true, cases_Bool, and_parts, and_from, le-leb, leb-true}
 
 -- one line on
 pub walk_turn : (cs : List ℕ) (p : Place) (ln : Line) (o : Option LineKind) → Fit ln ≡ fetched (drop p.byte cs) → o ≡ kind_of ln

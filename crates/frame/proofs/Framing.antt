@@ -1,10 +1,10 @@
 -- The frame is right exactly where the pass over the lines accepts.
-use Rattle.std.proofs.Common.{◌≡◌, ℕ, ◌+◌, ◌-◌, ◌<◌, ◌≤◌, Bool, true, false, cond, eqb, ltb, ◌⊎◌, List, [], ◌∷◌, ◌++◌, map, length, take, drop, set, Some, None, Ok, Err, codes, Option, Result, sym, refl, ap, ◌∙◌, subst, inl, inr, add-zero, zero-add, arith}
+use Rattle.std.proofs.Common.{◌≡◌, ℕ, ◌+◌, ◌≤◌, Bool, true, false, cond, eqb, ltb, ◌⊎◌, List, [], ◌∷◌, ◌++◌, map, length, take, drop, set, Some, None, Ok, Err, codes, Option, Result, sym, refl, ap, ◌∙◌, subst, inl, inr, add-zero, zero-add, arith}
 use Rattle.frame.proofs.DataWalk.{lines-past}
 use Rattle.frame.proofs.Pads.{set-padded}
 use Rattle.frame.proofs.Titled.{apart_push, apart-few, has_apart}
 use Rattle.frame.specs.DataLines.{data_from, data_by, data_at}
-use Rattle.frame.specs.Frames.{all_taken, at, by_kind, by_stage, closed, continued, counted, ended, end_by_kind, end_by_stage, ended_blocks, first_place, footer, frame, framed, frame_of, has_title, header, inside, is_header, no_block, opened, opening, outside, begun, stepped, unread}
+use Rattle.frame.specs.Frames.{all_taken, by_kind, by_stage, continued, counted, ended, end_by_kind, end_by_stage, ended_blocks, first_place, footer, frame, framed, frame_of, has_title, inside, is_header, no_block, opening, outside, begun, stepped, unread}
 use Rattle.frame.specs.Headings.{begins, caption_of, heading_of, is_text}
 use Rattle.frame.specs.Lines.{fits, is_nil, kind_by, kind_of, line_of, lines, padded, passed}
 use Rattle.frame.specs.Rules.{All, Apart, Good, OfKind, Part, Right, remark, section, block_at, blocks_of, data_in, data_of, data_or, frame_as, passed_all, words, written}
@@ -24,7 +24,7 @@ use Rattle.frame.specs.declared.walk.Stage.TheVariants.{Start, Outside, Inside}
 use Rattle.refusals.specs.declared.Refusal.{Refusal}
 use Rattle.std.proofs.lemmas.Slice.Eq.{bytes_eq-Decides}
 use Rattle.std.proofs.lemmas.List.{append_assoc, append-nil, take_at, length-append, length_push}
-use Rattle.std.proofs.lemmas.Bool.{and_parts, cond_both, cond-true, cond-false, cases_Bool, eqb-true, false≢true, le-ltb, ltb-false, ne_eqb}
+use Rattle.std.proofs.lemmas.Bool.{and_parts, cond_both, cond-true, cond-false, eqb-true, false≢true, le-ltb, ltb-false, ne_eqb}
 use Rattle.std.specs.List.{flat_map}
 use Rattle.std.specs.Str.{bytes_eq}
 

@@ -1,5 +1,5 @@
 -- Lists padded to a number of places.
-use Rattle.std.proofs.Common.{◌≡◌, ℕ, suc, ◌+◌, ◌-◌, ◌<◌, ◌≤◌, List, [], ◌∷◌, ◌++◌, length, set, replicate, sym, refl, ap, ◌∙◌, arith}
+use Rattle.std.proofs.Common.{◌≡◌, ℕ, suc, ◌-◌, ◌<◌, ◌≤◌, List, [], ◌∷◌, ◌++◌, length, set, replicate, sym, refl, ap, ◌∙◌, arith}
 use Rattle.frame.specs.Lines.{padded}
 use Rattle.std.proofs.lemmas.List.{set_at, append_assoc, length_push, length-append, length-replicate}
 

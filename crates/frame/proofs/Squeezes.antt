@@ -1,5 +1,5 @@
 -- Words one blank apart.
-use Rattle.std.proofs.Common.{◌≡◌, ℕ, ◌+◌, ◌-◌, ◌<◌, ◌≤◌, Bool, true, false, cond, eqb, List, [], ◌∷◌, ◌++◌, length, get_or, drop, set, replicate, sym, refl, ap, ◌∙◌, subst, arith}
+use Rattle.std.proofs.Common.{◌≡◌, ℕ, ◌+◌, ◌<◌, ◌≤◌, Bool, true, false, cond, List, [], ◌∷◌, ◌++◌, length, get_or, drop, set, replicate, sym, refl, ap, ◌∙◌, arith}
 use Rattle.frame.proofs.Pads.{set-padded}
 use Rattle.frame.specs.Headings.{headed, spelled, squeeze}
 use Rattle.frame.specs.declared.heading.Heading.{Heading}

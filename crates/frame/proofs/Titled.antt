@@ -1,6 +1,6 @@
 -- No title twice: so the blocks never outnumber the titles.
-use Rattle.std.proofs.Common.{◌≡◌, ℕ, zero, suc, ◌+◌, ◌<◌, ◌≤◌, Bool, true, false, cond, ◌||◌, eqb, ◌≢◌, List, [], ◌∷◌, ◌++◌, length, get_or, take, drop, set, replicate, IfOk, Some, None, Ok, Err, Option, Result, sym, refl, ap, ◌∙◌, subst, inl, inr, arith, lit<}
-use Rattle.frame.specs.Frames.{has_title, ended_blocks, no_block, stepped, by_kind, by_stage, inside, outside, opening, opened, closed, counted, begun, is_header, unread, Spacious, SpaciousAt}
+use Rattle.std.proofs.Common.{◌≡◌, ℕ, zero, suc, ◌+◌, ◌<◌, ◌≤◌, Bool, true, false, cond, ◌||◌, eqb, ◌≢◌, List, [], ◌∷◌, ◌++◌, length, get_or, drop, set, replicate, IfOk, Some, None, Ok, Option, Result, sym, refl, ◌∙◌, subst, arith, lit<}
+use Rattle.frame.specs.Frames.{has_title, ended_blocks, stepped, by_kind, by_stage, inside, outside, opening, closed, is_header, unread, Spacious, SpaciousAt}
 use Rattle.frame.specs.Headings.{caption_of, heading_of}
 use Rattle.frame.specs.Lines.{kind_of, passed}
 use Rattle.frame.specs.Rules.{Apart}
@@ -18,8 +18,8 @@ use Rattle.frame.specs.declared.walk.Progress.{Progress}
 use Rattle.frame.specs.declared.walk.Stage.{Stage}
 use Rattle.frame.specs.declared.walk.Stage.TheVariants.{Start, Outside, Inside}
 use Rattle.refusals.specs.declared.Refusal.{Refusal}
-use Rattle.std.proofs.lemmas.List.{at_drop_more, get_or-set_other, get_or-replicate, length-set, length-replicate, length-take-le, take_more_set}
-use Rattle.std.proofs.lemmas.Bool.{cond_both, cases_Bool, eq-eqb, ne_eqb, eqb-false, or_parts, or_from, or_left, false≢true}
+use Rattle.std.proofs.lemmas.List.{at_drop_more, get_or-set_other, get_or-replicate, length-set, length-take-le, take_more_set}
+use Rattle.std.proofs.lemmas.Bool.{cond_both, eq-eqb, ne_eqb, eqb-false, or_parts, or_from, or_left, false≢true}
 use Rattle.std.specs.Str.{bytes_eq}
 
 -- the search for a title, one block on

@@ -1,9 +1,8 @@
 -- The recursion over lines, and the walk over byte places.
-use Rattle.std.proofs.Common.{◌≡◌, ℕ, suc, ◌+◌, ◌-◌, ◌<◌, ◌≤◌, Bool, true, false, cond, eqb, ◌⊎◌, List, [], ◌∷◌, length, drop, Ok, Err, Result, sym, refl, ap, ◌∙◌, subst, inl, inr, add-one, arith}
+use Rattle.std.proofs.Common.{◌≡◌, ℕ, suc, ◌+◌, ◌<◌, ◌≤◌, true, false, cond, eqb, List, [], ◌∷◌, length, drop, Ok, Err, Result, sym, refl, ap, ◌∙◌, inl, inr, add-one, arith}
 use Rattle.frame.proofs.Titled.{Orderly, orderly_none, stepped-leaves}
 use Rattle.frame.specs.Frames.{at, frame, framed, ended, stepped, continued, unread, first_place}
 use Rattle.frame.specs.Lines.{lines, glue, first_line, fits, line_of, fetched, passed, is_nil}
-use Rattle.frame.specs.declared.line.Fetched.{Fetched}
 use Rattle.frame.specs.declared.line.Fetched.TheVariants.{End as NoLine, Unfit, Fit}
 use Rattle.frame.specs.declared.line.Line.{Line}
 use Rattle.frame.specs.declared.place.Place.{Place}

@@ -1,11 +1,9 @@
 -- Lemmas on a content that is walked from a place on.
-use Rattle.std.proofs.Common.{◌≡◌, ℕ, suc, ◌+◌, ◌-◌, ◌<◌, ◌≤◌, Bool, true, false, cond, ◌&&◌, eqb, ltb, leb, ◌⊎◌, List, [], ◌∷◌, ◌++◌, length, get_or, take, drop, set, replicate, Some, None, sym, refl, ap, ◌∙◌, subst, inl, inr, ⊎_elim, arith}
-use Rattle.frame.specs.Lines.{first_line, printable, all_printable, fits, padded, line_of, fetched, is_nil}
-use Rattle.frame.specs.declared.line.Fetched.{Fetched}
-use Rattle.frame.specs.declared.line.Fetched.TheVariants.{End as NoLine, Unfit, Fit}
-use Rattle.frame.specs.declared.line.Line.{Line}
-use Rattle.std.proofs.lemmas.List.{at_drop_more, at_drop_all, append-nil, take_more_set, drop-set, drop_more, drop-drop, drop_all, length-set, length-take-le, length-drop, length-append, length-replicate, append_assoc, take-append-drop, drop-set-lt, drop-replicate}
-use Rattle.std.proofs.lemmas.Bool.{and_left, and_from, and_right, lt-leb, le-leb, eq-eqb, ne_eqb, cases_lt, lt-ltb, le-ltb, cond-true, cond-false, cases_Bool}
+use Rattle.std.proofs.Common.{◌≡◌, ℕ, ◌+◌, ◌-◌, ◌<◌, ◌≤◌, Bool, true, false, cond, ◌&&◌, eqb, List, [], ◌∷◌, ◌++◌, length, get_or, take, drop, set, replicate, Some, None, sym, refl, ap, ◌∙◌, inl, inr, arith}
+use Rattle.frame.specs.Lines.{first_line, all_printable, fits, padded, line_of, fetched, is_nil}
+use Rattle.frame.specs.declared.line.Fetched.TheVariants.{Unfit, Fit}
+use Rattle.std.proofs.lemmas.List.{at_drop_more, at_drop_all, append-nil, take_more_set, drop_more, drop-drop, length-set, length-take-le, length-append, append_assoc, take-append-drop, drop-set-lt, drop-replicate}
+use Rattle.std.proofs.lemmas.Bool.{and_left, and_from, and_right, lt-leb, le-leb, ne_eqb, cases_lt, lt-ltb, le-ltb, cond-true, cond-false}
 use Rattle.media.specs.Media.{byte_at}
 
 -- a test of every element, by recursion: the loop over it, at an element that fails and at one that passes

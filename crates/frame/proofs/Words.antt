@@ -1,10 +1,10 @@
 -- Lemmas on words of a line, and on the search through the titles.
-use Rattle.std.proofs.Common.{◌≡◌, ℕ, ◌+◌, ◌-◌, ◌<◌, ◌≤◌, Bool, true, false, cond, ◌&&◌, eqb, List, [], ◌∷◌, length, get_or, take, drop, Some, None, Decides, Option, sym, refl, ap, ◌∙◌, inl, inr, arith, rules}
+use Rattle.std.proofs.Common.{◌≡◌, ℕ, ◌+◌, ◌-◌, ◌<◌, ◌≤◌, Bool, true, false, ◌&&◌, eqb, List, [], ◌∷◌, length, get_or, take, drop, Some, Decides, Option, sym, refl, ap, ◌∙◌, inl, inr, arith, rules}
 use Rattle.frame.specs.Headings.{begins, caption_adding, caption_by, caption_of, adds_by, first_word_is, title_among, title_named}
 use Rattle.frame.specs.Titles.{name_of}
 use Rattle.frame.specs.declared.heading.Caption.{Caption}
 use Rattle.frame.specs.declared.title.Title.{Title}
-use Rattle.std.proofs.lemmas.List.{at_drop_more, at_drop_all, drop_more, drop_all, get_or_past, take_rest}
+use Rattle.std.proofs.lemmas.List.{at_drop_more, drop_more, drop_all, get_or_past, take_rest}
 use Rattle.std.proofs.lemmas.Bool.{and_left, and_right, eq-eqb, ne_eqb, cond-true, cond-false, cases_Bool, cases_lt, false≢true}
 use Rattle.std.proofs.lemmas.Slice.Eq.{bytes_eq-Decides}
 use Rattle.std.specs.Str.{bytes_eq}

@@ -2,7 +2,6 @@
 use Rattle.std.specs.Prelude.{◌≡◌, ℕ, ◌+◌, ◌-◌, Bool, true, cond, ◌&&◌, List, [], ◌∷◌, length, drop, Some, None, Option, nat_le}
 use Rattle.frame.specs.Lines.{lines, fits, line_of, kind_of, passed}
 use Rattle.frame.specs.declared.data.DataLine.{DataLine}
-use Rattle.frame.specs.declared.line.Line.{Line}
 use Rattle.frame.specs.declared.line.LineKind.{LineKind}
 use Rattle.frame.specs.declared.line.LineKind.TheVariants.{Bound, Comment, Title, End, Data}
 use Rattle.frame.specs.declared.place.Place.{Place}

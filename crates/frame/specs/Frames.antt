@@ -1,5 +1,5 @@
 -- The frame of a file, as a recursion over its lines.
-use Rattle.std.specs.Prelude.{ℕ, ◌+◌, ◌<◌, ◌≤◌, Bool, true, false, cond, ◌&&◌, ◌||◌, List, [], ◌∷◌, length, take, replicate, Some, None, Ok, Err, codes, Option, Result, ◌==◌, nat_lt, slice_set}
+use Rattle.std.specs.Prelude.{ℕ, ◌+◌, ◌<◌, ◌≤◌, Bool, false, cond, ◌&&◌, ◌||◌, List, [], ◌∷◌, length, take, replicate, Some, None, Ok, Err, codes, Option, Result, ◌==◌, nat_lt, slice_set}
 use Rattle.frame.specs.Headings.{begins, caption_of, heading_of, headed, is_text}
 use Rattle.frame.specs.Lines.{lines, fits, line_of, passed, is_nil, kind_of}
 use Rattle.frame.specs.Titles.{place_of}

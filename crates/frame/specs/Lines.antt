@@ -1,5 +1,5 @@
 -- The lines of a content: byte 10 ends a line, and the last may lack it.
-use Rattle.std.specs.Prelude.{◌≡◌, ℕ, ◌+◌, ◌-◌, ◌≤◌, Bool, true, false, cond, ◌&&◌, List, [], ◌∷◌, ◌++◌, length, replicate, Some, None, Option, ◌==◌, nat_le, slice_index}
+use Rattle.std.specs.Prelude.{ℕ, ◌+◌, ◌-◌, Bool, true, false, cond, ◌&&◌, List, [], ◌∷◌, ◌++◌, length, replicate, Some, None, Option, ◌==◌, nat_le, slice_index}
 use Rattle.frame.specs.declared.line.Fetched.{Fetched}
 use Rattle.frame.specs.declared.line.Fetched.TheVariants.{End as NoLine, Unfit, Fit}
 use Rattle.frame.specs.declared.line.Line.{Line}

@@ -1,6 +1,6 @@
 -- Bytes that are added to those already there.
 use Rattle.std.proofs.Common.{◌≡◌, ℕ, ◌+◌, ◌<◌, ◌≤◌, cond, List, ◌++◌, length, get_or, take, drop, is_ok, IfOk, Ok, Err, Result, sym, ap, ◌∙◌, append_assoc, arith}
-use Rattle.frame.specs.Headings.{columns, headed, heading_of, squeezed}
+use Rattle.frame.specs.Headings.{columns, heading_of, squeezed}
 use Rattle.frame.specs.Lines.{fetched}
 use Rattle.frame.specs.declared.heading.Heading.{Heading}
 use Rattle.frame.specs.declared.line.Line.{Line}

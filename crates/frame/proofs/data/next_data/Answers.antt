@@ -1,5 +1,5 @@
-use Rattle.std.proofs.Common.{◌≡◌, sym, refl, ap, ◌∙◌, arith}
-use Rattle.frame.specs.DataLines.{Walked, walked, walked_from}
+use Rattle.std.proofs.Common.{sym, ap, ◌∙◌, arith}
+use Rattle.frame.specs.DataLines.{Walked}
 use Rattle.frame.proofs.DataWalk.{walk_yields, walkable_true}
 use Rattle.frame.proofs.data.next_data.Goals as goal
 

@@ -1,10 +1,9 @@
-use Rattle.std.proofs.Common.{◌≡◌, ℕ, ◌+◌, ◌-◌, ◌<◌, ◌≤◌, length, drop, Some, None, sym, refl, ap, ◌∙◌, arith}
-use Rattle.frame.specs.DataLines.{Walked, walked, stay}
-use Rattle.frame.specs.Lines.{lines, passed}
+use Rattle.std.proofs.Common.{drop, Some, None, sym, ap, ◌∙◌, arith}
+use Rattle.frame.specs.DataLines.{Walked, walked}
+use Rattle.frame.specs.Lines.{lines}
 use Rattle.frame.specs.declared.place.Place.{Place}
 use Rattle.frame.proofs.DataWalk.{walk_turn, walk_stops, walk_other}
 use Rattle.frame.proofs.Turns.{read_bound}
-use Rattle.frame.proofs.data.next_from.Given as given
 use Rattle.frame.proofs.data.next_from.Goals as goal
 
 pub returns-in_default : goal.returns-in_default

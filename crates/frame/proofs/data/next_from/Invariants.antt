@@ -1,4 +1,4 @@
-use Rattle.std.proofs.Common.{◌≡◌, ◌+◌, ◌-◌, ◌≤◌, length, drop}
+use Rattle.std.proofs.Common.{◌≡◌, ◌-◌, ◌≤◌, length, drop}
 use Rattle.frame.specs.DataLines.{walked}
 use Rattle.frame.specs.Lines.{lines}
 use Rattle.frame.proofs.data.next_from.Given as goal

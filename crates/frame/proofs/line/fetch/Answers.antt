@@ -1,8 +1,7 @@
-use Rattle.std.proofs.Common.{◌≡◌, ℕ, ◌+◌, ◌-◌, ◌<◌, ◌≤◌, true, false, List, [], length, take, drop, Some, None, sym, ap, ◌∙◌, arith}
+use Rattle.std.proofs.Common.{◌≡◌, ℕ, ◌+◌, ◌-◌, ◌<◌, ◌≤◌, [], length, take, drop, Some, sym, ap, ◌∙◌, arith}
 use Rattle.std.proofs.lemmas.List.{at_drop_all}
-use Rattle.media.specs.Media.{byte_at}
 use Rattle.frame.specs.Lines.{fetched, first_line, all_printable}
-use Rattle.frame.proofs.Walks.{Copied, copied_none, copied_more, first_ends, first-none, fetched-fit, fetched_unfit, fetched-long, byte_some, byte_none}
+use Rattle.frame.proofs.Walks.{copied_more, first_ends, first-none, fetched-fit, fetched_unfit, fetched-long, byte_some, byte_none}
 use Rattle.frame.proofs.line.fetch.Given as given
 use Rattle.frame.proofs.line.fetch.Goals as goal
 use Rattle.frame.proofs.line.fetch.Goals.{Joined-byte, in-Some+then-b-eq10, in_default}

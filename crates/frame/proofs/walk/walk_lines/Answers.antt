@@ -1,13 +1,11 @@
-use Rattle.std.proofs.Common.{◌≡◌, ℕ, ◌+◌, ◌<◌, ◌≤◌, false, length, drop, Ok, Err, Result, sym, refl, ap, ◌∙◌, subst, arith}
+use Rattle.std.proofs.Common.{◌≡◌, ◌+◌, ◌<◌, ◌≤◌, length, drop, Err, sym, ap, ◌∙◌, subst, arith}
 use Rattle.std.proofs.lemmas.Result.{err_from_is_err_and}
 use Rattle.frame.specs.Frames.{ended, stepped, framed, first_place}
 use Rattle.frame.specs.Lines.{passed}
 use Rattle.frame.specs.declared.place.Place.{Place}
 use Rattle.frame.specs.declared.walk.Progress.{Progress}
-use Rattle.refusals.specs.declared.Refusal.{Refusal}
 use Rattle.frame.proofs.Titled.{orderly_spacious}
 use Rattle.frame.proofs.Turns.{Going, going_all, going_more, going_none, read_within, within_more, turn_none, turn_unfit, turn_last, turn_stops}
-use Rattle.frame.proofs.walk.walk_lines.Given as given
 use Rattle.frame.proofs.walk.walk_lines.Goals as goal
 
 pub returns-in-End : goal.returns-in-End

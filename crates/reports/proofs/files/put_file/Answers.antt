@@ -1,6 +1,5 @@
-use Rattle.std.proofs.Common.{◌≡◌, ℕ, List, ◌++◌, Ok, Err, vec_items, Result, refl, ap, ◌∙◌}
+use Rattle.std.proofs.Common.{List, ◌++◌, vec_items, ap, ◌∙◌}
 use Rattle.frame.specs.declared.walk.Block.{Block}
-use Rattle.refusals.specs.declared.Fault.{Fault}
 use Rattle.reports.proofs.Adds.{added, added_after}
 use Rattle.reports.proofs.files.put_file.Goals as goal
 use Rattle.reports.specs.FileReport.{after_header, header_in, header_line}

@@ -1,7 +1,6 @@
-use Rattle.std.proofs.Common.{◌≡◌, Bool, sym, refl, ◌∙◌, subst, arith, rules}
-use Rattle.frame.specs.Headings.{heading_of, columns}
-use Rattle.frame.specs.declared.heading.Heading.{Heading}
-use Rattle.frame.proofs.Squeezes.{Squeezing, squeezing_none, squeezing_gap, squeezing_more, squeezing_all, squeezing_space}
+use Rattle.std.proofs.Common.{refl, rules}
+use Rattle.frame.specs.Headings.{heading_of}
+use Rattle.frame.proofs.Squeezes.{squeezing_none, squeezing_gap, squeezing_more, squeezing_all, squeezing_space}
 use Rattle.frame.proofs.line.Line.heading.Goals as goal
 use Rattle.frame.proofs.line.Line.heading.Goals.{then-b-eq32, else-b-eq32}
 
