@@ -5,13 +5,13 @@ use Rattle.model.specs.Needs.{any_of}
 use Rattle.std.proofs.lemmas.List.{drop_all}
 use Rattle.std.proofs.Common.{sym, ap, ◌∙◌, arith}
 
-pub returns-then-is-of : goal.returns-then-is-of
-returns-then-is-of c =
-    sym (any_found (is_of c.args.contents) c.args.estimates.now c.loop-p.p-index _ c.loop-p-test.true (sym c.if-is-of.ensures)) ∙ c.loop-p.invariant
+pub returns-then-is_of : goal.returns-then-is_of
+returns-then-is_of c =
+    sym (any_found (is_of c.args.contents) c.args.estimates.now c.loop-p.p-index _ c.loop-p-test.true (sym c.if-is_of.ensures)) ∙ c.loop-p.invariant
 
 pub loop-p-preserved : goal.loop-p-preserved
 loop-p-preserved c =
-    sym (any_past (is_of c.args.contents) c.args.estimates.now c.loop-p.p-index _ c.loop-p-test.true (sym c.if-is-of.ensures)) ∙ c.loop-p.invariant
+    sym (any_past (is_of c.args.contents) c.args.estimates.now c.loop-p.p-index _ c.loop-p-test.true (sym c.if-is_of.ensures)) ∙ c.loop-p.invariant
 
 pub returns : goal.returns
 returns c =

@@ -1,7 +1,7 @@
 use Rattle.std.proofs.Common.{◌≡◌, ◌+◌, length, take, sym, refl, ap, ◌∙◌, subst, arith}
 use Rattle.copies.proofs.Present.{Noted, noted_more, noted_same, order}
 use Rattle.copies.proofs.letters.contents_of.Goals as goal
-use Rattle.copies.proofs.letters.contents_of.Goals.{then-any-is-of, else-any-is-of}
+use Rattle.copies.proofs.letters.contents_of.Goals.{then-any_is_of, else-any_is_of}
 use Rattle.copies.specs.Copy.{present, six_places}
 
 pub loop-i-init : goal.loop-i-init
@@ -11,13 +11,13 @@ pub loop-i-preserved : goal.loop-i-preserved
 loop-i-preserved c =
     let es = c.args.estimates.now in
     let i = c.loop-i.i in
-    elim c.if-any-is-of.branch [
-      | then-any-is-of w ↦
+    elim c.if-any_is_of.branch [
+      | then-any_is_of w ↦
           rw (w.places-is, w.count-is)
-          (noted_more es i c.loop-i.places c.loop-i.count _ c.loop-i-test.true c.loop-i.invariant (sym c.any-is-of.ensures ∙ w.if-any-is-of.true))
-      | else-any-is-of w ↦
+          (noted_more es i c.loop-i.places c.loop-i.count _ c.loop-i-test.true c.loop-i.invariant (sym c.any_is_of.ensures ∙ w.if-any_is_of.true))
+      | else-any_is_of w ↦
           rw (w.places-is, w.count-is)
-          (noted_same es i c.loop-i.places c.loop-i.count _ c.loop-i-test.true c.loop-i.invariant (sym c.any-is-of.ensures ∙ w.if-any-is-of.false))
+          (noted_same es i c.loop-i.places c.loop-i.count _ c.loop-i-test.true c.loop-i.invariant (sym c.any_is_of.ensures ∙ w.if-any_is_of.false))
     ]
 
 pub returns : goal.returns

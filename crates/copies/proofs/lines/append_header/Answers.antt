@@ -9,8 +9,8 @@ pub returns : goal.returns
 returns g c =
     let es = c.args.estimates.now in
     let h = c.args.head.now in
-    let rest = c.append-line.ensures in
+    let rest = c.append_line.ensures in
     let n = length (contents_of es) in
-    let w : 67 + 2 * c.contents-of-letters.result.count ≡ 67 + (n + n) = omega (arith, c.contents-of-letters.ensures.count) in
+    let w : 67 + 2 * c.contents_of-letters.result.count ≡ 67 + (n + n) = omega (arith, c.contents_of-letters.ensures.count) in
     appends_line _ _ _ _ _ _ rest.granted rest.after rest.kept (header_of take h es)
-    (front _ _ _ _ w (c.write-header-columns.ensures ∙ ap (λ ps. header_text h.header (length es) ps) c.contents-of-letters.ensures.places))
+    (front _ _ _ _ w (c.write_header-columns.ensures ∙ ap (λ ps. header_text h.header (length es) ps) c.contents_of-letters.ensures.places))

@@ -11,23 +11,23 @@ loop-x-preserved g c =
     let k = c.loop-x.index in
     let x = c.x-item.result in
     let xs = c.args.records.now in
-    let done = c.in-ok-append-line.ensures in (
+    let done = c.in_ok-append_line.ensures in (
       onward_more c.loop-x.invariant.0 (line k x ∷ []) (lines_from line (k + 1) (drop (i + 1) xs)) (lines_more line k xs i x c.loop-x-test.true c.x-item.is)
           (appends_line _ _ _ _ _ _ done.granted done.after done.kept (line k x) (front _ _ _ _ c.width.ensures.value c.write-columns.ensures)),
       omega (arith, c.loop-x.invariant.1),
     )
 
-pub returns-in-err-append-line : goal.returns-in-err-append-line
-returns-in-err-append-line g c =
+pub returns-in_err-append_line : goal.returns-in_err-append_line
+returns-in_err-append_line g c =
     let line : ℕ → g.row.R.Denot → _ = λ i x. take g.R.Lined.wide (g.R.Lined.columns i x) in
     let i = c.loop-x.x-index in
     let k = c.loop-x.index in
     let x = c.x-item.result in
     let xs = c.args.records.now in
-    let done = c.in-err-append-line.ensures in
+    let done = c.in_err-append_line.ensures in
     onward_stop c.loop-x.invariant.0 (line k x ∷ []) (lines_from line (k + 1) (drop (i + 1) xs)) (lines_more line k xs i x c.loop-x-test.true c.x-item.is)
     (appends_line _ _ _ _ _ _ done.granted done.after done.kept (line k x) (front _ _ _ _ c.width.ensures.value c.write-columns.ensures))
-    c.from-residual.result
+    c.from_residual.result
 
 pub returns : goal.returns
 returns g c =

@@ -4,4 +4,4 @@ use Rattle.std.proofs.lemmas.List.{append-nil}
 use Rattle.std.proofs.Common.{◌++◌, codes, ap, ◌∙◌}
 
 pub returns : goal.returns
-returns c = ap (λ w. codes "SOLUTION/MATRIX_ESTIMATE L " ++ w) (append-nil c.copy-from-slice.new.self ∙ c.copy-from-slice.ensures.after ∙ c.word.ensures)
+returns c = ap (λ w. codes "SOLUTION/MATRIX_ESTIMATE L " ++ w) (append-nil c.copy_from_slice.new.self ∙ c.copy_from_slice.ensures.after ∙ c.word.ensures)
