@@ -5,7 +5,6 @@ use Rattle.copies.proofs.Rows.{walked}
 use Rattle.copies.specs.Appends.{Appends}
 use Rattle.copies.specs.Bodies.{cells_from}
 use Rattle.copies.specs.Copy.{block, copy_lines, header_of, matrix_title, numbered}
-use Rattle.decimals.specs.declared.number.Number.{Number}
 use Rattle.media.specs.declared.Full.{Full}
 use Rattle.model.specs.Solutions.{Solution}
 use Rattle.headings.specs.declared.headers.Head.{Head}

@@ -5,7 +5,7 @@ use Rattle.codes.specs.Codes.{matrix_kind_text}
 use Rattle.codes.specs.ParameterTypes.{type_named}
 use Rattle.codes.specs.Text.{filled}
 use Rattle.codes.specs.declared.letters.Contents.{Contents}
-use Rattle.codes.specs.declared.letters.Contents.TheVariants.{Stations, Orbits, EarthOrientation, Troposphere, CelestialFrame, Antennas}
+use Rattle.codes.specs.declared.letters.Contents.TheVariants.{Stations, EarthOrientation, Troposphere, CelestialFrame, Antennas}
 use Rattle.codes.specs.declared.letters.MatrixKind.{MatrixKind}
 use Rattle.codes.specs.declared.types.ParameterType.{ParameterType}
 use Rattle.codes.specs.Codes.{contents_letter}
@@ -17,8 +17,6 @@ use Rattle.headings.specs.Elements.{matrix_text}
 use Rattle.headings.specs.declared.headers.Head.{Head}
 use Rattle.records.specs.Copies.{parameter_text, site_text, span_text}
 use Rattle.records.specs.declared.parameters.Parameter.{Parameter}
-use Rattle.records.specs.declared.sites.Site.{Site}
-use Rattle.records.specs.declared.spans.Span.{Span}
 use Rattle.triangle.specs.Triangle.{is_zero_number}
 
 -- ---- lines

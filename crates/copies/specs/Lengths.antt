@@ -1,8 +1,8 @@
 -- How long a fair copy is, by what it holds.
-use Rattle.std.specs.Prelude.{ℕ, zero, suc, ◌+◌, ◌*◌, ◌<◌, cond, List, [], ◌∷◌, length}
+use Rattle.std.specs.Prelude.{ℕ, suc, ◌+◌, ◌*◌, cond, List, [], ◌∷◌, length}
 use Rattle.copies.specs.Copy.{contents_of}
 use Rattle.decimals.specs.declared.number.Number.{Number}
-use Rattle.model.specs.Solutions.{Solution, cell_of}
+use Rattle.model.specs.Solutions.{Solution}
 use Rattle.triangle.specs.Triangle.{is_zero_number}
 
 -- how many of the cells are not zero

@@ -1,7 +1,6 @@
-use Rattle.copies.proofs.Blocks.{all_lines, footer, from_aprioris, from_cells, from_estimates, from_header, from_sites, from_spans, walked_cells}
+use Rattle.copies.proofs.Blocks.{all_lines, footer, from_aprioris, from_cells, from_estimates, from_sites, from_spans, walked_cells}
 use Rattle.copies.proofs.Ends.{appends_as, appends_line, appends_stop, appends_then}
 use Rattle.copies.proofs.copy.append_copy.Goals as goal
-use Rattle.copies.specs.Appends.{Appends}
 use Rattle.copies.specs.Copy.{block}
 use Rattle.copies.specs.Measures.{solution_of}
 use Rattle.std.proofs.Common.{codes, refl, ap}

@@ -3,7 +3,7 @@ use Rattle.copies.proofs.lengths.count_nonzero.Goals as goal
 use Rattle.copies.proofs.lengths.count_nonzero.Goals.{then-not-is_zero, else-not-is_zero}
 use Rattle.copies.specs.Lengths.{nonzero}
 use Rattle.std.proofs.lemmas.List.{drop_all}
-use Rattle.std.proofs.Common.{◌≡◌, drop, sym, ap, ◌∙◌, arith}
+use Rattle.std.proofs.Common.{◌≡◌, drop, sym, ap, arith}
 
 pub loop-v-preserved : goal.loop-v-preserved
 loop-v-preserved c =

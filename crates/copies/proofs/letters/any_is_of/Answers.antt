@@ -3,7 +3,7 @@ use Rattle.copies.proofs.letters.any_is_of.Goals as goal
 use Rattle.copies.specs.Copy.{is_of}
 use Rattle.model.specs.Needs.{any_of}
 use Rattle.std.proofs.lemmas.List.{drop_all}
-use Rattle.std.proofs.Common.{sym, ap, ◌∙◌, arith}
+use Rattle.std.proofs.Common.{sym, ap, ◌∙◌}
 
 pub returns-then-is_of : goal.returns-then-is_of
 returns-then-is_of c =

@@ -1,5 +1,5 @@
-use Rattle.std.proofs.Common.{◌≡◌, ◌+◌, length, take, sym, refl, ap, ◌∙◌, subst, arith}
-use Rattle.copies.proofs.Present.{Noted, noted_more, noted_same, order}
+use Rattle.std.proofs.Common.{◌≡◌, length, take, sym, refl, ap, ◌∙◌, arith}
+use Rattle.copies.proofs.Present.{noted_more, noted_same, order}
 use Rattle.copies.proofs.letters.contents_of.Goals as goal
 use Rattle.copies.proofs.letters.contents_of.Goals.{then-any_is_of, else-any_is_of}
 use Rattle.copies.specs.Copy.{present, six_places}

@@ -1,9 +1,8 @@
-use Rattle.std.proofs.Common.{◌+◌, ◌≤◌, take, drop, sym, subst, arith}
-use Rattle.copies.proofs.Ends.{Onward, onward_more, onward_stop, onward_end}
+use Rattle.std.proofs.Common.{◌+◌, drop}
+use Rattle.copies.proofs.Ends.{onward_more, onward_stop, onward_end}
 use Rattle.copies.proofs.Walks.{cells_more, cells_all, next_row, next_column}
 use Rattle.copies.proofs.lines.append_cells.Goals as goal
 use Rattle.copies.specs.Bodies.{cells_from, next_place}
-use Rattle.copies.specs.Copy.{cell_line}
 
 pub loop-value-preserved : goal.loop-value-preserved
 loop-value-preserved g c =

@@ -1,4 +1,3 @@
-use Rattle.codes.specs.Codes.{matrix_kind_text}
 use Rattle.copies.proofs.lines.matrix_title.Goals as goal
 use Rattle.std.proofs.lemmas.List.{append-nil}
 use Rattle.std.proofs.Common.{◌++◌, codes, ap, ◌∙◌}
