@@ -7,24 +7,24 @@ use Rattle.register.proofs.calls.put_bytes.Goals as goal
 use Rattle.register.specs.Views.{view}
 use Rattle.std.proofs.Common.{sym, ◌∙◌}
 
-pub returns-then-not-is-own : goal.returns-then-not-is-own
-returns-then-not-is-own c =
+pub returns-then-not-is_own : goal.returns-then-not-is_own
+returns-then-not-is_own c =
     let x = view c.args.register.now c.args.tables.now in
     record {
-      obeys = obeys_strange (Put c.args.sort c.args.bytes.now) x (sym c.if-not-is-own.ensures);
+      obeys = obeys_strange (Put c.args.sort c.args.bytes.now) x (sym c.if-not-is_own.ensures);
       slices = slices_refl c.args.tables.now;
     }
 
-pub put-line-requires : goal.put-line-requires
-put-line-requires c = data_line_printable c.args.bytes.now c.in-ok-line.line (sym c.data-line.ensures ∙ c.in-ok-line.was)
+pub put_line-requires : goal.put_line-requires
+put_line-requires c = data_line_printable c.args.bytes.now c.in_ok-line.line (sym c.data_line.ensures ∙ c.in_ok-line.was)
 
 pub returns : goal.returns
 returns c =
     let x = view c.args.register.now c.args.tables.now in
-    let done = c.put-line.ensures in
-    let line = sym c.data-line.ensures ∙ c.in-ok-line.was in
-    let does = does_then_ok (data_line c.args.bytes.now) (put_line c.args.sort) c.in-ok-line.line x _ _ line done.0 in
+    let done = c.put_line.ensures in
+    let line = sym c.data_line.ensures ∙ c.in_ok-line.was in
+    let does = does_then_ok (data_line c.args.bytes.now) (put_line c.args.sort) c.in_ok-line.line x _ _ line done.0 in
     record {
-      obeys = obeys_does (Put c.args.sort c.args.bytes.now) x _ _ (sym c.if-not-is-own.ensures) does;
+      obeys = obeys_does (Put c.args.sort c.args.bytes.now) x _ _ (sym c.if-not-is_own.ensures) does;
       slices = done.1;
     }

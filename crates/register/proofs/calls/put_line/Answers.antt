@@ -3,14 +3,14 @@ use Rattle.record_laws.specs.Valid.{ValidParameter, ValidSite, ValidSpan}
 use Rattle.register.proofs.calls.put_line.Goals as goal
 use Rattle.std.proofs.Common.{sym, ◌∙◌}
 
-pub put-site-requires : goal.put-site-requires
-put-site-requires c = given ValidSite _ _ (sym c.read-site.ensures ∙ c.in-ok-read-site.was) (sites_are_valid c.args.line.now c.requires)
+pub put_site-requires : goal.put_site-requires
+put_site-requires c = given ValidSite _ _ (sym c.read_site.ensures ∙ c.in_ok-read_site-in-Site.was) (sites_are_valid c.args.line.now c.requires)
 
-pub put-span-requires : goal.put-span-requires
-put-span-requires c = given ValidSpan _ _ (sym c.read-span.ensures ∙ c.in-ok-read-span.was) (spans_are_valid c.args.line.now c.requires)
+pub put_span-requires : goal.put_span-requires
+put_span-requires c = given ValidSpan _ _ (sym c.read_span.ensures ∙ c.in_ok-read_span-in-Span.was) (spans_are_valid c.args.line.now c.requires)
 
-pub put-estimate-requires : goal.put-estimate-requires
-put-estimate-requires c = given ValidParameter _ _ (sym c.read-parameter.ensures ∙ c.in-ok-read-parameter.was) (parameters_are_valid c.args.line.now c.requires)
+pub put_estimate-requires : goal.put_estimate-requires
+put_estimate-requires c = given ValidParameter _ _ (sym c.read_parameter.ensures ∙ c.in_ok-read_parameter-in-Estimate.was) (parameters_are_valid c.args.line.now c.requires)
 
-pub put-apriori-requires : goal.put-apriori-requires
-put-apriori-requires c = given ValidParameter _ _ (sym c.read-parameter-in-Apriori.ensures ∙ c.in-ok-read-parameter-2.was) (parameters_are_valid c.args.line.now c.requires)
+pub put_apriori-requires : goal.put_apriori-requires
+put_apriori-requires c = given ValidParameter _ _ (sym c.read_parameter-in-Apriori.ensures ∙ c.in_ok-read_parameter-in-Apriori.was) (parameters_are_valid c.args.line.now c.requires)

@@ -6,5 +6,5 @@ use Rattle.register.specs.Views.{view}
 pub returns : goal.returns
 returns c =
     let x = view c.args.register.now c.args.tables.now in
-    let done = c.drop-apriori-row.ensures in
+    let done = c.drop_apriori_row.ensures in
     (carried _ x _ _ _ _ done.answer done.state (apriori_drop_does c.args.apriori.now x), done.slices)

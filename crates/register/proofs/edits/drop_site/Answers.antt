@@ -4,20 +4,20 @@ use Rattle.register.proofs.edits.drop_site.Goals as goal
 use Rattle.register.specs.Views.{view}
 use Rattle.std.proofs.Common.{sym}
 
-pub returns-then-not-has-site : goal.returns-then-not-has-site
-returns-then-not-has-site c =
+pub returns-then-not-has_site : goal.returns-then-not-has_site
+returns-then-not-has_site c =
     let x = view c.args.register.now c.args.tables.now in
-    (site_drop_absent c.args.site.now x (sym c.if-not-has-site.ensures), slices_refl c.args.tables.now)
+    (site_drop_absent c.args.site.now x (sym c.if-not-has_site.ensures), slices_refl c.args.tables.now)
 
-pub returns-then-needs-site : goal.returns-then-needs-site
-returns-then-needs-site c =
+pub returns-then-needs_site : goal.returns-then-needs_site
+returns-then-needs_site c =
     let x = view c.args.register.now c.args.tables.now in
-    (site_drop_needed c.args.site.now x (sym c.if-not-has-site.ensures) (sym c.if-needs-site.ensures), slices_refl c.args.tables.now)
+    (site_drop_needed c.args.site.now x (sym c.if-not-has_site.ensures) (sym c.if-needs_site.ensures), slices_refl c.args.tables.now)
 
 pub returns : goal.returns
 returns c =
     let x = view c.args.register.now c.args.tables.now in
-    let done = c.drop-site-row.ensures in
-    let free = sym c.if-needs-site.ensures in
-    let there = sym c.if-not-has-site.ensures in
+    let done = c.drop_site_row.ensures in
+    let free = sym c.if-needs_site.ensures in
+    let there = sym c.if-not-has_site.ensures in
     (carried _ x _ _ _ _ done.answer done.state (site_drop_does c.args.site.now x free there), done.slices)

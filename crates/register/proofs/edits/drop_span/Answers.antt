@@ -4,20 +4,20 @@ use Rattle.register.proofs.edits.drop_span.Goals as goal
 use Rattle.register.specs.Views.{view}
 use Rattle.std.proofs.Common.{sym}
 
-pub returns-then-not-has-span-record : goal.returns-then-not-has-span-record
-returns-then-not-has-span-record c =
+pub returns-then-not-has_span_record : goal.returns-then-not-has_span_record
+returns-then-not-has_span_record c =
     let x = view c.args.register.now c.args.tables.now in
-    (span_drop_absent c.args.span.now x (sym c.if-not-has-span-record.ensures), slices_refl c.args.tables.now)
+    (span_drop_absent c.args.span.now x (sym c.if-not-has_span_record.ensures), slices_refl c.args.tables.now)
 
-pub returns-then-needs-span : goal.returns-then-needs-span
-returns-then-needs-span c =
+pub returns-then-needs_span : goal.returns-then-needs_span
+returns-then-needs_span c =
     let x = view c.args.register.now c.args.tables.now in
-    (span_drop_needed c.args.span.now x (sym c.if-not-has-span-record.ensures) (sym c.if-needs-span.ensures), slices_refl c.args.tables.now)
+    (span_drop_needed c.args.span.now x (sym c.if-not-has_span_record.ensures) (sym c.if-needs_span.ensures), slices_refl c.args.tables.now)
 
 pub returns : goal.returns
 returns c =
     let x = view c.args.register.now c.args.tables.now in
-    let done = c.drop-span-row.ensures in
-    let free = sym c.if-needs-span.ensures in
-    let there = sym c.if-not-has-span-record.ensures in
+    let done = c.drop_span_row.ensures in
+    let free = sym c.if-needs_span.ensures in
+    let there = sym c.if-not-has_span_record.ensures in
     (carried _ x _ _ _ _ done.answer done.state (span_drop_does c.args.span.now x free there), done.slices)

@@ -4,13 +4,13 @@ use Rattle.register.proofs.edits.put_apriori.Goals as goal
 use Rattle.register.specs.Views.{view}
 use Rattle.std.proofs.Common.{sym}
 
-pub returns-then-not-is-served : goal.returns-then-not-is-served
-returns-then-not-is-served c =
+pub returns-then-not-is_served : goal.returns-then-not-is_served
+returns-then-not-is_served c =
     let x = view c.args.register.now c.args.tables.now in
-    (apriori_put_lacking c.args.apriori x (sym c.if-not-is-served.ensures), slices_refl c.args.tables.now)
+    (apriori_put_lacking c.args.apriori x (sym c.if-not-is_served.ensures), slices_refl c.args.tables.now)
 
 pub returns : goal.returns
 returns c =
     let x = view c.args.register.now c.args.tables.now in
-    let done = c.put-apriori-row.ensures in
-    (carried _ x _ _ _ _ done.answer done.state (apriori_put_does c.args.apriori c.requires x (sym c.if-not-is-served.ensures)), done.slices)
+    let done = c.put_apriori_row.ensures in
+    (carried _ x _ _ _ _ done.answer done.state (apriori_put_does c.args.apriori c.requires x (sym c.if-not-is_served.ensures)), done.slices)

@@ -5,29 +5,29 @@ use Rattle.register.specs.Views.{view}
 use Rattle.model.specs.Steps.{open_answer, rank_opened}
 use Rattle.std.proofs.Common.{◌≡◌, is_ok, Err, sym, refl, ap, ◌∙◌, rules}
 
-pub returns-then-not-is-served : goal.returns-then-not-is-served
-returns-then-not-is-served c =
+pub returns-then-not-is_served : goal.returns-then-not-is_served
+returns-then-not-is_served c =
     let x = view c.args.register.now c.args.tables.now in
-    (estimate_put_lacking c.args.estimate x (sym c.if-not-is-served.ensures), slices_refl c.args.tables.now)
+    (estimate_put_lacking c.args.estimate x (sym c.if-not-is_served.ensures), slices_refl c.args.tables.now)
 
-pub returns-in-err-open-for : goal.returns-in-err-open-for
-returns-in-err-open-for c =
+pub returns-in_err-open_for : goal.returns-in_err-open_for
+returns-in_err-open_for c =
     let x = view c.args.register.now c.args.tables.now in
-    let fault = c.in-err-open-for.field-0.0 in
-    let opened = c.open-for.ensures in
-    let was = c.in-err-open-for.was in
-    let e : c.from-residual.result ≡ Err fault = search rules in
-    let full = estimate_put_full c.args.estimate x fault (sym c.if-not-is-served.ensures) (ap (λ p. open_answer p x) (sym c.place-of-place.ensures) ∙ sym opened.answer ∙ was) in
+    let fault = c.in_err-open_for.field-0.0 in
+    let opened = c.open_for.ensures in
+    let was = c.in_err-open_for.was in
+    let e : c.from_residual.result ≡ Err fault = search rules in
+    let full = estimate_put_full c.args.estimate x fault (sym c.if-not-is_served.ensures) (ap (λ p. open_answer p x) (sym c.place_of-place.ensures) ∙ sym opened.answer ∙ was) in
     (carried _ x _ _ _ _ e (opened.refused (ap is_ok was)) full, opened.slices)
 
 pub returns : goal.returns
 returns c =
     let x = view c.args.register.now c.args.tables.now in
-    let y = view c.args.register.now c.open-for.new.tables in
-    let opened = c.open-for.ensures in
-    let done = c.put-estimate-row.ensures in
-    let was = c.in-ok-open-for.was in
-    let place = c.place-of-place.ensures in
+    let y = view c.args.register.now c.open_for.new.tables in
+    let opened = c.open_for.ensures in
+    let done = c.put_estimate_row.ensures in
+    let was = c.in_ok-open_for.was in
+    let place = c.place_of-place.ensures in
     let grants = ap (λ p. open_answer p x) (sym place) ∙ sym opened.answer ∙ was in
-    let does = estimate_put_does c.args.estimate c.requires x (sym c.if-not-is-served.ensures) grants y (λ l. opened.state l ∙ ap (λ p. rank_opened p x) place) refl in
-    (carried _ x _ _ _ _ done.answer done.state does, slices-trans c.args.tables.now c.open-for.new.tables c.put-estimate-row.new.tables opened.slices done.slices)
+    let does = estimate_put_does c.args.estimate c.requires x (sym c.if-not-is_served.ensures) grants y (λ l. opened.state l ∙ ap (λ p. rank_opened p x) place) refl in
+    (carried _ x _ _ _ _ done.answer done.state does, slices-trans c.args.tables.now c.open_for.new.tables c.put_estimate_row.new.tables opened.slices done.slices)

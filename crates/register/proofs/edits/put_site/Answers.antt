@@ -6,5 +6,5 @@ use Rattle.register.specs.Views.{view}
 pub returns : goal.returns
 returns c =
     let x = view c.args.register.now c.args.tables.now in
-    let done = c.put-site-row.ensures in
+    let done = c.put_site_row.ensures in
     (carried _ x _ _ _ _ done.answer done.state (site_put_does c.args.site c.requires x), done.slices)

@@ -4,14 +4,14 @@ use Rattle.register.proofs.edits.put_span.Goals as goal
 use Rattle.register.specs.Views.{view}
 use Rattle.std.proofs.Common.{sym}
 
-pub returns-then-not-has-site : goal.returns-then-not-has-site
-returns-then-not-has-site c =
+pub returns-then-not-has_site : goal.returns-then-not-has_site
+returns-then-not-has_site c =
     let x = view c.args.register.now c.args.tables.now in
-    (span_put_lacking c.args.span x (sym c.if-not-has-site.ensures), slices_refl c.args.tables.now)
+    (span_put_lacking c.args.span x (sym c.if-not-has_site.ensures), slices_refl c.args.tables.now)
 
 pub returns : goal.returns
 returns c =
     let x = view c.args.register.now c.args.tables.now in
-    let done = c.put-span-row.ensures in
-    let there = sym c.if-not-has-site.ensures in
+    let done = c.put_span_row.ensures in
+    let there = sym c.if-not-has_site.ensures in
     (carried _ x _ _ _ _ done.answer done.state (span_put_does c.args.span c.requires x there), done.slices)

@@ -8,4 +8,4 @@ over-blanks : (cs bs : List ℕ) (n : ℕ) → cs ≡ bs → n ≡ length bs →
 over-blanks cs bs n e m h = ap₂ ◌++◌ e (drop-replicate n 80 32 ∙ ap (λ k. replicate (80 - k) 32) m)
 
 pub returns : goal.returns
-returns c = over-blanks c.copy-from-slice.new.self c.args.bytes.now (length c.args.bytes.now - 0) c.copy-from-slice.ensures.after (omega arith) (omega (arith, c.requires))
+returns c = over-blanks c.copy_from_slice.new.self c.args.bytes.now (length c.args.bytes.now - 0) c.copy_from_slice.ensures.after (omega arith) (omega (arith, c.requires))

@@ -4,4 +4,4 @@ use Rattle.std.proofs.Common.{sym}
 
 pub returns : goal.returns
 returns c =
-    made c.args.tables.now c.blank-tables.new.tables (sym c.if-not-is-allowed.ensures) (sym c.if-not-is-own.ensures) c.blank-tables.ensures.blank c.blank-tables.ensures.slices
+    made c.args.tables.now c.blank_tables.new.tables (sym c.if-not-is_allowed.ensures) (sym c.if-not-is_own.ensures) c.blank_tables.ensures.blank c.blank_tables.ensures.slices
