@@ -1,11 +1,10 @@
 -- A register that is made over blanked tables stands for nothing. Assumes nothing.
-use Rattle.std.proofs.Common.{◌≡◌, ℕ, Bool, true, false, cond, ◌&&◌, eqb, leb, length, replicate, Ok, Err, Result, sym, refl, ap, ◌∙◌, subst}
+use Rattle.std.proofs.Common.{◌≡◌, ℕ, true, cond, eqb, leb, length, replicate, Ok, Err, sym, ap, ◌∙◌, subst}
 use Rattle.decimals.specs.Number.{zero_number}
 use Rattle.model.proofs.Laying.{blank_state_lem, made_stands}
-use Rattle.model.specs.States.{Stands, State, allowed, blank_state, nothing, own, triangular}
+use Rattle.model.specs.States.{Stands, allowed, blank_state, nothing, own, triangular}
 use Rattle.model.specs.declared.counts.Counts.{Counts}
 use Rattle.refusals.specs.declared.Fault.TheVariants.{TableLengths}
-use Rattle.refusals.specs.declared.Refusal.{Refusal}
 use Rattle.register.specs.Making.{Makes, blanked, fresh_register, lengths_of, makeable}
 use Rattle.register.specs.Views.{SameSlices, view}
 use Rattle.register.specs.declared.tables.Register.{Register}

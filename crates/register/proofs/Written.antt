@@ -1,26 +1,24 @@
 -- What a writing comes to where register and tables stand for a solution. Assumes nothing.
-use Rattle.std.proofs.Common.{◌≡◌, ℕ, ◌≤◌, Bool, true, false, cond, leb, List, length, take, Some, None, Ok, Err, Option, Result, sym, refl, ap, ◌∙◌, subst, arith}
-use Rattle.copies.specs.Copy.{copy_lines, ended, fair_copy}
+use Rattle.std.proofs.Common.{◌≡◌, ℕ, ◌≤◌, Bool, true, false, cond, leb, List, length, Some, None, Ok, Err, sym, refl, ap, ◌∙◌, subst, arith}
+use Rattle.copies.specs.Copy.{fair_copy}
 use Rattle.copies.specs.Lengths.{copy_length}
 use Rattle.copies.specs.Measures.{countable, measured}
 use Rattle.copies.specs.Writes.{Writes as Copies, within}
 use Rattle.copy_laws.proofs.CopyLines.{copy_written}
 use Rattle.copy_laws.specs.CopyLaws.{Writable}
 use Rattle.media.specs.declared.Full.{Full}
-use Rattle.model.proofs.Laying.{cells_fit, shown_is, stands_own}
+use Rattle.model.proofs.Laying.{shown_is, stands_own}
 use Rattle.model.specs.Edits.{unplaced, with_head}
 use Rattle.model.specs.Solutions.{Solution}
 use Rattle.model.specs.States.{Stands, State, allowed, own}
 use Rattle.model.specs.Steps.{shown}
 use Rattle.model.specs.declared.counts.Counts.{Counts}
 use Rattle.headings.specs.declared.headers.Head.{Head}
-use Rattle.refusals.specs.declared.Fault.{Fault}
 use Rattle.refusals.specs.declared.Fault.TheVariants.{MediumTooSmall, NoHead, TableLengths}
 use Rattle.register.specs.Writing.{Writes, written, written_by}
 use Rattle.std.proofs.lemmas.Bool.{and_from, and_parts, both_ways, le-leb, leb-true}
 use Rattle.tables.specs.Rows.{plain, value_or}
 use Rattle.triangle.proofs.Tri.{tri_bound}
-use Rattle.triangle.specs.Triangle.{tri}
 
 -- tables of other lengths
 pub write_strange : (x : State) (before : List ℕ) (room : ℕ) → own x ≡ false → Writes x before room (unplaced (Err TableLengths)) before

@@ -1,6 +1,6 @@
 use Rattle.model.proofs.Handing.{head_handed}
 use Rattle.model.proofs.HeadSteps.{head_set_does}
-use Rattle.model.proofs.Steps.{does_then_err, does_then_ok, obeys_does, obeys_strange}
+use Rattle.model.proofs.Steps.{does_then_ok, obeys_does, obeys_strange}
 use Rattle.model.specs.Edits.{SetHead, head_named, with_head}
 use Rattle.register.proofs.calls.head_bytes.Goals as goal
 use Rattle.register.specs.Views.{view}

@@ -1,4 +1,4 @@
-use Rattle.std.proofs.Common.{◌≡◌, ℕ, ◌+◌, ◌-◌, ◌≤◌, List, ◌++◌, length, drop, replicate, ap, ◌∙◌, ap₂, arith}
+use Rattle.std.proofs.Common.{◌≡◌, ℕ, ◌-◌, ◌≤◌, List, ◌++◌, length, drop, replicate, ap, ◌∙◌, ap₂, arith}
 use Rattle.frame.specs.Lines.{padded}
 use Rattle.register.proofs.handed.columns_of.Goals as goal
 use Rattle.std.proofs.lemmas.List.{drop-replicate}
