@@ -5,4 +5,4 @@ use Rattle.std.proofs.Common.{sym, ap, ◌∙◌}
 
 pub returns-in-Err : goal.returns-in-Err
 returns-in-Err c =
-    added c.extend-from-slice-in-Err.result _ _ _ _ c.extend-from-slice-in-Err.ensures.items (c.refusal-line.ensures ∙ ap answer_line (sym c.in-Err.is))
+    added c.extend_from_slice-in-Err.result _ _ _ _ c.extend_from_slice-in-Err.ensures.items (c.refusal_line.ensures ∙ ap answer_line (sym c.in-Err.is))

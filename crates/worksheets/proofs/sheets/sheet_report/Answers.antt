@@ -11,7 +11,7 @@ returns-in-Ok c = record {
 
 pub returns-in-Err : goal.returns-in-Err
 returns-in-Err c = record {
-  report = IfOk-weaker c.to-vec.result _ _
-      (λ v h. h (λ x y e. e) ∙ (c.refusal-line.ensures ∙ unmade c.args.tables.now c.make.new.tables c.in-Err.refusal c.args.sheet.now c.in-Err.ensures)) c.to-vec.ensures.items-if-clones-equal;
+  report = IfOk-weaker c.to_vec.result _ _
+      (λ v h. h (λ x y e. e) ∙ (c.refusal_line.ensures ∙ unmade c.args.tables.now c.make.new.tables c.in-Err.refusal c.args.sheet.now c.in-Err.ensures)) c.to_vec.ensures.items_if_clones_equal;
   slices = c.make.ensures.slices;
 }

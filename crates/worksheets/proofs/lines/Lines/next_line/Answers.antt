@@ -10,15 +10,15 @@ returns-then-rest-eq0 c = record { line = no_bytes c.args.self.now.rest.now c.if
 pub returns : goal.returns
 returns c =
     let bs = c.args.self.now.rest.now in
-    let n = c.line-length-n.result in
+    let n = c.line_length-n.result in
     let past = c.if-n-rest.past in
     let some : 0 < length bs = omega arith in
     let full : n - 0 ≡ n = omega arith in
     let on : n < length bs → past ≡ n + 1 = λ l. elim c.if-n-rest.branch [ then-n-rest w ↦ w.past-is | else-n-rest w ↦ absurd (omega arith) ] in
     let off : length bs ≤ n → past ≡ n = λ l. elim c.if-n-rest.branch [ then-n-rest w ↦ absurd (omega arith) | else-n-rest w ↦ w.past-is ] in
-    let rest : take (length bs - past) (drop past bs) ≡ drop (suc n) bs = rest-past bs n past c.line-length-n.ensures.within on off in
+    let rest : take (length bs - past) (drop past bs) ≡ drop (suc n) bs = rest-past bs n past c.line_length-n.ensures.within on off in
     record {
-      line = cut bs n some c.line-length-n.ensures.within c.line-length-n.ensures.before c.line-length-n.ensures.found
+      line = cut bs n some c.line_length-n.ensures.within c.line_length-n.ensures.before c.line_length-n.ensures.found
           ∙ (ap (λ (m : ℕ). take m bs ∷ lines (drop (suc n) bs)) (sym full) ∙ ap (λ (r : List ℕ). take (n - 0) bs ∷ lines r) (sym rest));
       number = refl;
       shorter = omega (arith, ap length rest, length-drop (suc n) bs);
