@@ -1,5 +1,5 @@
 -- What is printed of a replay.
-use Rattle.std.specs.Prelude.{◌≡◌, ℕ, cond, List, [], ◌∷◌, ◌++◌, Ok, Err, codes, decimal, Result}
+use Rattle.std.specs.Prelude.{◌≡◌, ℕ, cond, List, [], ◌++◌, Ok, Err, codes, decimal, Result}
 use Rattle.model.specs.Edits.{after, reply}
 use Rattle.model.specs.Solutions.{Solution}
 use Rattle.model.specs.States.{State, Stands, counts_of, nothing}

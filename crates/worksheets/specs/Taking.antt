@@ -1,5 +1,5 @@
 -- A line taken from the front of a content.
-use Rattle.std.specs.Prelude.{ℕ, ◌+◌, ◌<◌, List, [], ◌∷◌, length, Some, None, Option}
+use Rattle.std.specs.Prelude.{ℕ, ◌<◌, List, [], ◌∷◌, length, Some, None, Option}
 use Rattle.frame.specs.Lines.{lines}
 use Rattle.std.specs.Borrow.{Bor}
 

@@ -1,5 +1,5 @@
 use Rattle.register.specs.Views.{view}
-use Rattle.std.proofs.Common.{◌≡◌, Bool, true, false, cond, vec_items, subst, arith}
+use Rattle.std.proofs.Common.{Bool, true, false, cond, vec_items, subst, arith}
 use Rattle.worksheets.proofs.Ways.{onward, slices-on}
 use Rattle.worksheets.proofs.sheets.replay_lines.Goals as goal
 use Rattle.worksheets.specs.Replays.{Onward, left}
