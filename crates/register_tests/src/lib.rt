@@ -200,7 +200,7 @@ HOLDS 1 SITES 0 SPANS 0 ESTIMATES 0 APRIORIS
             row: &mut store.row,
         };
         let report = sheet_report(rt.alloc(), &mut tables, GATE)?;
-        assert!(rt; report.as_slice() == b"REFUSED 01 LINE 000000000\n");
+        assert!(rt; report.as_slice() == b"REFUSED 01 LINE 000000000\n".as_slice());
         Ok(())
     }
 
@@ -217,7 +217,8 @@ HOLDS 1 SITES 0 SPANS 0 ESTIMATES 0 APRIORIS
         let mut register = Register::make(&mut tables)?;
         let report = replay(rt.alloc(), &mut register, &mut tables, GATE)?;
         assert!(rt;
-            report.as_slice() == b"GRANTED\nHOLDS 1 SITES 0 SPANS 0 ESTIMATES 0 APRIORIS\n"
+            report.as_slice()
+                == b"GRANTED\nHOLDS 1 SITES 0 SPANS 0 ESTIMATES 0 APRIORIS\n".as_slice()
         );
         Ok(register)
     }
