@@ -1,7 +1,7 @@
 -- What is measured before a fair copy is written.
 use Rattle.std.specs.Prelude.{ℕ, Bool, cond, ◌&&◌, length, Some, None, Option, nat_le}
 use Rattle.copies.specs.Lengths.{copy_length}
-use Rattle.copies.specs.declared.records.Records.{Records}
+use Rattle.copies.specs.declared.handed.Records.{Records}
 use Rattle.model.specs.Solutions.{Solution}
 use Rattle.headings.specs.declared.headers.Head.{Head}
 

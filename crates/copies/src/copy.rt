@@ -6,9 +6,9 @@ ghost use Rattle.copies.specs.Writes.{Writes, within};
 ghost use Rattle.std.specs.Prelude.{◌≡◌, true, length, take, None};
 ghost use Rattle.triangle.specs.Triangle.{tri};
 
+use crate::handed::Records;
 use crate::lengths::copy_length;
 use crate::lines::{Body, append_block, append_header, matrix_title};
-use crate::records::Records;
 use headings::headers::Head;
 use media::runs::append_line;
 use media::{Full, Medium, Source};

@@ -3,8 +3,8 @@ ghost use Rattle.std.specs.Prelude.{◌≡◌, ◌≤◌, length, None};
 ghost use Rattle.copies.specs.Lengths.{nonzero};
 ghost use Rattle.copies.specs.Measures.{countable, measured, solution_by};
 
+use crate::handed::Records;
 use crate::letters::contents_of;
-use crate::records::Records;
 use decimals::number::Number;
 use triangle::cell::Cell;
 

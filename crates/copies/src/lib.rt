@@ -2,7 +2,7 @@
 #![tactic(auto)]
 
 pub mod copy;
+pub mod handed;
 pub mod lengths;
 pub mod letters;
 pub mod lines;
-pub mod records;

@@ -6,7 +6,7 @@ use Rattle.model.specs.declared.counts.Counts.{Counts}
 use Rattle.refusals.specs.declared.Fault.{Fault}
 use Rattle.refusals.specs.declared.Refusal.{Refusal}
 use Rattle.register.specs.Views.{SameSlices}
-use Rattle.register.specs.declared.tables.Tables.{Tables}
+use Rattle.register.specs.declared.lent.Tables.{Tables}
 use Rattle.std.proofs.Common.{◌≡◌, Result, sym, refl, ◌∙◌, subst}
 
 pub carried : (rule : Counts → Solution → Result Solution Fault) (x : State) (a b : Result (Unit {0}) Fault) (y z : State) → b ≡ a → z ≡ y → Does rule x a y → Does rule x b z

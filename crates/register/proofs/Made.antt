@@ -7,8 +7,8 @@ use Rattle.model.specs.declared.counts.Counts.{Counts}
 use Rattle.refusals.specs.declared.Fault.TheVariants.{TableLengths}
 use Rattle.register.specs.Making.{Makes, blanked, fresh_register, lengths_of, makeable}
 use Rattle.register.specs.Views.{SameSlices, view}
-use Rattle.register.specs.declared.tables.Register.{Register}
-use Rattle.register.specs.declared.tables.Tables.{Tables}
+use Rattle.register.specs.declared.lent.Register.{Register}
+use Rattle.register.specs.declared.lent.Tables.{Tables}
 use Rattle.std.proofs.lemmas.Bool.{and_from, and_parts, both_ways, eqb-true}
 use Rattle.triangle.specs.Triangle.{tri}
 

@@ -8,8 +8,8 @@ use Rattle.records.specs.Spans.{blank_span}
 use Rattle.refusals.specs.declared.Fault.TheVariants.{TableLengths}
 use Rattle.refusals.specs.declared.Refusal.{Refusal}
 use Rattle.register.specs.Views.{SameSlices, view}
-use Rattle.register.specs.declared.tables.Register.{Register}
-use Rattle.register.specs.declared.tables.Tables.{Tables}
+use Rattle.register.specs.declared.lent.Register.{Register}
+use Rattle.register.specs.declared.lent.Tables.{Tables}
 use Rattle.std.specs.Prelude.{◌≡◌, Bool, true, false, cond, ◌&&◌, length, replicate, None, Ok, Err, Result}
 
 -- how many places the tables have for each sort of record

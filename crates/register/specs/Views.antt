@@ -4,8 +4,8 @@ use Rattle.model.specs.States.{Does, State}
 use Rattle.model.specs.declared.counts.Counts.{Counts}
 use Rattle.refusals.specs.declared.Fault.{Fault}
 use Rattle.std.specs.Prelude.{◌≡◌, Result}
-use Rattle.register.specs.declared.tables.Register.{Register}
-use Rattle.register.specs.declared.tables.Tables.{Tables}
+use Rattle.register.specs.declared.lent.Register.{Register}
+use Rattle.register.specs.declared.lent.Tables.{Tables}
 
 abbrev pub view : Register → Tables → State
 view g t = record {

@@ -13,7 +13,7 @@ use crate::edits::{
     put_span, set_cell_of,
 };
 use crate::handed::{cell_number, data_line, header_line};
-use crate::tables::{Register, Tables};
+use crate::lent::{Register, Tables};
 use crate::writing::write_held;
 use codes::letters::MatrixKind;
 use headings::headers::{Head, read_edited_header};

@@ -4,7 +4,7 @@ ghost use Rattle.model.specs.Steps.{estimate_place, estimate_rank, open_answer, 
 ghost use Rattle.register.specs.Views.{view, SameSlices};
 ghost use Rattle.triangle.specs.Triangle.{tri};
 
-use crate::tables::{Register, Tables};
+use crate::lent::{Register, Tables};
 use records::parameters::Parameter;
 use refusals::Fault;
 use tables::table::{Place, find_in};

@@ -5,12 +5,12 @@ ghost use Rattle.record_laws.specs.Valid.{ValidSite, ValidSpan, ValidParameter};
 ghost use Rattle.register.specs.Views.{Step};
 
 use crate::cells::{close_at, open_for, place_of, rank_of};
+use crate::lent::{Register, Tables};
 use crate::needs::{has_site, has_span_record, is_served, needs_site, needs_span};
 use crate::rows::{
     drop_apriori_row, drop_estimate_row, drop_site_row, drop_span_row, put_apriori_row,
     put_estimate_row, put_site_row, put_span_row,
 };
-use crate::tables::{Register, Tables};
 use decimals::number::Number;
 use records::parameters::Parameter;
 use records::sites::Site;

@@ -5,7 +5,7 @@ pub mod calls;
 mod cells;
 mod edits;
 mod handed;
+pub mod lent;
 mod needs;
 mod rows;
-pub mod tables;
 mod writing;

@@ -7,7 +7,7 @@ ghost use Rattle.records.specs.Spans.{span_order};
 ghost use Rattle.tables.specs.Rows.{known, used_rows};
 ghost use Rattle.std.specs.Prelude.{◌≡◌, Bool};
 
-use crate::tables::{Register, Tables};
+use crate::lent::{Register, Tables};
 use model::needs::is_stationed;
 use records::keys::{SiteKey, SolutionKey, compare_site_keys, compare_solution_keys};
 use records::parameters::Parameter;

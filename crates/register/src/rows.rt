@@ -4,7 +4,7 @@ ghost use Rattle.register.specs.Views.{view, SameSlices};
 ghost use Rattle.tables.specs.Rows.{plain};
 ghost use Rattle.std.specs.Prelude.{◌≡◌};
 
-use crate::tables::{Register, Tables};
+use crate::lent::{Register, Tables};
 use records::parameters::Parameter;
 use records::sites::Site;
 use records::spans::Span;

@@ -9,9 +9,9 @@ ghost use Rattle.tables.specs.Rows.{used_rows};
 ghost use Rattle.triangle.specs.Triangle.{tri};
 
 use crate::calls::is_own;
-use crate::tables::{Register, Tables};
+use crate::lent::{Register, Tables};
 use copies::copy::write_copy;
-use copies::records::Records;
+use copies::handed::Records;
 use decimals::number::Number;
 use headings::headers::Head;
 use media::{Full, Medium, Source};

@@ -7,7 +7,7 @@ mod tests {
     use records::parameters::Parameter;
     use records::sites::Site;
     use records::spans::Span;
-    use register::tables::{Register, Tables};
+    use register::lent::{Register, Tables};
     use std::process::Abort;
     use std::test::Fail;
     use tables::table::Record;

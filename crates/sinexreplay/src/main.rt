@@ -8,7 +8,7 @@ use records::parameters::Parameter;
 use records::sites::Site;
 use records::spans::Span;
 use refusals::{Fault, Refusal};
-use register::tables::Tables;
+use register::lent::Tables;
 use reports::refusal::refusal_line;
 use std::alloc::{AllocError, Global};
 use std::io;

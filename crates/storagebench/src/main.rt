@@ -2,12 +2,11 @@
 // Its arguments are `inserts` or `ranks`, how many, and how often. It prints a sum over what it made, and the time to standard error.
 #![tactic(auto)]
 
-ghost use Rattle.std.specs.Prelude.{◌≡◌, true, eqb};
+ghost use Rattle.std.specs.Prelude.{◌≡◌, true, eqb, refl};
 ghost use Rattle.storagebench.specs.Samples.{row_order, bare_row, zero_value, is_zero};
 ghost use Rattle.tables.proofs.Orders.{by_key, rank_order};
 ghost use Rattle.storagebench.specs.declared.Row.{Row};
 ghost use Rattle.std.specs.Ordering.{nat_cmp};
-ghost use Rattle.std.proofs.Common.{rules};
 
 use std::alloc::{AllocError, Global};
 use std::cmp::Ordering;
@@ -62,7 +61,7 @@ impl Cell for Value {
 
     ghost is_nought = { is_zero };
 
-    ghost void = { Prim.search rules };
+    ghost void = { refl };
 
     fn zero() -> Value {
         Value {

@@ -1,9 +1,8 @@
 // Two kinds of records, a code with a number and a code with a time, and the value of a cell.
-ghost use Rattle.std.specs.Prelude.{◌≡◌};
+ghost use Rattle.std.specs.Prelude.{◌≡◌, refl};
 ghost use Rattle.std.specs.Ordering.{ordering_then, nat_cmp};
 ghost use Rattle.storagedemo.specs.Records.{code_order, reading_order, bare_reading, visit_order, bare_visit, zero_amount, is_zero};
 ghost use Rattle.storagedemo.specs.Keys.{reading_order_lem, visit_order_lem};
-ghost use Rattle.std.proofs.Common.{rules};
 
 use std::cmp::Ordering;
 use tables::table::Record;
@@ -119,7 +118,7 @@ impl Cell for Amount {
 
     ghost is_nought = { is_zero };
 
-    ghost void = { Prim.search rules };
+    ghost void = { refl };
 
     fn zero() -> Amount {
         Amount { value: 0 }

@@ -1,9 +1,8 @@
 // The places of a triangle, and its cells by two ranks. Ranks count from 0.
-ghost use Rattle.std.specs.Prelude.{◌≡◌, ℕ, ◌≤◌, max, Bool, true, ◌&&◌, length, if◌then◌else◌, Some, None, Ok, Err, nat_le, slice_set};
+ghost use Rattle.std.specs.Prelude.{◌≡◌, ℕ, ◌≤◌, max, Bool, true, ◌&&◌, length, if◌then◌else◌, Some, None, Ok, Err, nat_le, slice_set, refl};
 ghost use Rattle.refusals.specs.declared.Fault.TheVariants.{WrongCell};
 ghost use Rattle.decimals.specs.Number.{zero_number};
 ghost use Rattle.triangle.specs.Triangle.{tri, spot, cell, same, holds, seen, is_zero_number};
-ghost use Rattle.std.proofs.Common.{rules};
 
 use decimals::number::Number;
 use refusals::Fault;
@@ -34,7 +33,7 @@ impl Cell for Number {
 
     ghost is_nought = { is_zero_number };
 
-    ghost void = { Prim.search rules };
+    ghost void = { refl };
 
     fn zero() -> Number {
         Number {

@@ -8,8 +8,8 @@ use Rattle.refusals.specs.declared.Fault.TheVariants.{TableLengths}
 use Rattle.refusals.specs.declared.Refusal.{Refusal}
 use Rattle.register.specs.Making.{Makes, fresh_register, lengths_of, makeable}
 use Rattle.register.specs.Views.{SameSlices, view}
-use Rattle.register.specs.declared.tables.Register.{Register}
-use Rattle.register.specs.declared.tables.Tables.{Tables}
+use Rattle.register.specs.declared.lent.Register.{Register}
+use Rattle.register.specs.declared.lent.Tables.{Tables}
 use Rattle.reports.specs.Refused.{refusal_line}
 use Rattle.std.proofs.lemmas.List.{append-nil}
 use Rattle.std.proofs.lemmas.Bool.{cases_Bool, cond-false, cond-true}

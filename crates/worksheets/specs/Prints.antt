@@ -7,7 +7,7 @@ use Rattle.model.specs.declared.counts.Counts.{Counts}
 use Rattle.refusals.specs.declared.Fault.TheVariants.{TableLengths}
 use Rattle.refusals.specs.declared.Refusal.{Refusal}
 use Rattle.register.specs.Making.{lengths_of, makeable}
-use Rattle.register.specs.declared.tables.Tables.{Tables}
+use Rattle.register.specs.declared.lent.Tables.{Tables}
 use Rattle.reports.specs.Refused.{refusal_line}
 use Rattle.worksheets.specs.Sheets.{Sheet, Done, Unclear, Then, sheet_of}
 

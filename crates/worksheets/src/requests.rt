@@ -9,7 +9,7 @@ use crate::lines::Lines;
 use codes::letters::MatrixKind;
 use model::counts::Sort;
 use refusals::Refusal;
-use register::tables::{Register, Tables};
+use register::lent::{Register, Tables};
 
 // A call of the register as a worksheet states it.
 #[derive(Clone, Copy)]

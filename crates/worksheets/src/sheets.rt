@@ -10,7 +10,7 @@ use crate::commands::read_command;
 use crate::lines::Lines;
 use crate::prints::{put_answer, put_counts, put_unclear};
 use crate::requests::{Request, perform, read_request};
-use register::tables::{Register, Tables};
+use register::lent::{Register, Tables};
 use reports::refusal::refusal_line;
 use std::alloc::{AllocError, Global};
 

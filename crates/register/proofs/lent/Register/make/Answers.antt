@@ -1,5 +1,5 @@
 use Rattle.register.proofs.Made.{made}
-use Rattle.register.proofs.tables.Register.make.Goals as goal
+use Rattle.register.proofs.lent.Register.make.Goals as goal
 use Rattle.std.proofs.Common.{sym}
 
 pub returns : goal.returns
