@@ -1,33 +1,15 @@
 -- The table of parameter types.
-use Rattle.std.proofs.Common.{◌≡◌, ℕ, zero, suc, ◌+◌, ◌<◌, ◌≤◌, Bool, true, false, ◌&&◌, List, [], ◌∷◌, length, get_or, drop, Some, None, Ok, Err, Option, Result, sym, refl, ap, ◌∙◌, ⊎_elim, arith}
-use Rattle.std.proofs.lemmas.List.{at_drop_more, at_drop_all}
+use Rattle.std.proofs.lemmas.Grind.{common_steps}
+use Rattle.std.proofs.Common.{◌≡◌, ℕ, zero, suc, ◌<◌, Bool, true, false, ◌&&◌, List, [], ◌∷◌, length, get_or, Some, None, Ok, Err, Option, Result, sym, refl, ap, ◌∙◌, ⊎_elim, arith}
 use Rattle.std.proofs.lemmas.Bool.{cond-true, cond-false, cases_Bool, and_parts, true≢false, false≢true}
 use Rattle.refusals.specs.declared.Fault.{Fault}
 use Rattle.codes.specs.Order.{is_equal, same_text}
 use Rattle.codes.specs.Text.{read_text}
-use Rattle.codes.proofs.Comparing.{lex_self}
+use Rattle.std.proofs.lemmas.Cmp.{nat_list_cmp_total, tied_itself}
 use Rattle.codes.proofs.Spellings.{same_is}
 use Rattle.decimals.proofs.Faults.{nothing}
 use Rattle.codes.specs.ParameterTypes.{types, no_type, first_named, in_unit, TypesComeBack, TypesAreNamed, TypesAreTexts}
 use Rattle.codes.specs.declared.types.ParameterType.{ParameterType}
-
-pub types-count : length types ≡ 41
-unfolding types
-types-count = refl
-
--- a look through the table
-pub look-found : (name : List ℕ) (i : ℕ) (t : ParameterType) → i < 41 → t ≡ get_or types i no_type → same_text name t.name ≡ true → first_named name (drop i types) ≡ Some t
-look-found name i t h e s =
-    at_drop_more (first_named name) types i no_type (omega (arith, types-count))
-    ∙ (ap (λ (u : ParameterType). first_named name (u ∷ drop (i + 1) types)) (sym e) ∙ cond-true _ _ _ s)
-
-pub look_more : (name : List ℕ) (i : ℕ) (t : ParameterType) → i < 41 → t ≡ get_or types i no_type → same_text name t.name ≡ false → first_named name (drop i types) ≡ first_named name (drop (i + 1) types)
-look_more name i t h e s =
-    at_drop_more (first_named name) types i no_type (omega (arith, types-count))
-    ∙ (ap (λ (u : ParameterType). first_named name (u ∷ drop (i + 1) types)) (sym e) ∙ cond-false _ _ _ s)
-
-pub look_none : (name : List ℕ) (i : ℕ) → 41 ≤ i → first_named name (drop i types) ≡ None
-look_none name i h = at_drop_all (first_named name) types i (omega (arith, types-count))
 
 -- ---- the rule of the table, computed once over all of it
 
@@ -45,21 +27,13 @@ unfolding types
 types-apart = refl
 
 same_self : (xs : List ℕ) → same_text xs xs ≡ true
-same_self xs = ap is_equal (lex_self xs)
+same_self xs = ap is_equal (tied_itself nat_list_cmp_total xs)
 
 -- a name that is not found is not that of any place
 not_named : (name : List ℕ) (ts : List ParameterType) (i : ℕ) → is_nothing (first_named name ts) ≡ true → i < length ts → same_text name (get_or ts i no_type).name ≡ false
 not_named name [] i e h = absurd (omega arith)
-not_named name (t ∷ ts) zero e h =
-    ⊎_elim
-    (λ y. absurd (false≢true (sym (ap is_nothing (cond-true (same_text name t.name) (Some t) (first_named name ts) y)) ∙ e)))
-    (λ f. f)
-    (cases_Bool (same_text name t.name))
-not_named name (t ∷ ts) (suc i) e h =
-    ⊎_elim
-    (λ y. absurd (false≢true (sym (ap is_nothing (cond-true (same_text name t.name) (Some t) (first_named name ts) y)) ∙ e)))
-    (λ f. not_named name ts i (ap is_nothing (sym (cond-false (same_text name t.name) (Some t) (first_named name ts) f)) ∙ e) (omega arith))
-    (cases_Bool (same_text name t.name))
+not_named name (t ∷ ts) zero e h = grind (arith, common_steps)
+not_named name (t ∷ ts) (suc i) e h = grind (arith, common_steps, not_named name ts i)
 
 not_same : (xs ys : List ℕ) → same_text xs ys ≡ false → same_text ys xs ≡ false
 not_same xs ys f = ⊎_elim (λ y. absurd (true≢false (sym (same_self xs) ∙ (ap (same_text xs) (sym (same_is ys xs y)) ∙ f)))) (λ g. g) (cases_Bool (same_text ys xs))
@@ -105,11 +79,8 @@ types_texts = refl
 
 text_at : (ts : List ParameterType) (i : ℕ) → texts ts ≡ true → i < length ts → (read_text 6 (get_or ts i no_type).name ≡ Ok (get_or ts i no_type).name) × (read_text 4 (get_or ts i no_type).unit ≡ Ok (get_or ts i no_type).unit)
 text_at [] i e h = absurd (omega arith)
-text_at (t ∷ ts) zero e h =
-    let p = and_parts (itself (read_text 6 t.name) t.name && itself (read_text 4 t.unit) t.unit) (texts ts) e in
-    let q = and_parts (itself (read_text 6 t.name) t.name) (itself (read_text 4 t.unit) t.unit) p.0 in
-    (itself_is (read_text 6 t.name) t.name q.0, itself_is (read_text 4 t.unit) t.unit q.1)
-text_at (t ∷ ts) (suc i) e h = text_at ts i (and_parts (itself (read_text 6 t.name) t.name && itself (read_text 4 t.unit) t.unit) (texts ts) e).1 (omega arith)
+text_at (t ∷ ts) zero e h = (grind (arith, common_steps, itself_is), grind (arith, common_steps, itself_is))
+text_at (t ∷ ts) (suc i) e h = text_at ts i (grind (arith, common_steps)) (omega arith)
 
 pub types_come_back : TypesComeBack
 types_come_back i h =

@@ -1,62 +1,30 @@
 -- Words among blanks.
-use Rattle.std.proofs.Common.{◌≡◌, ℕ, suc, ◌+◌, ◌-◌, ◌<◌, ◌≤◌, true, false, ◌&&◌, eqb, leb, List, [], ◌∷◌, ◌++◌, length, get_or, take, drop, set, replicate, Ok, Err, sym, refl, ap, ◌∙◌, ⊎_elim, arith}
-use Rattle.std.proofs.lemmas.List.{at_drop_more, at_drop_all, take_rest, set_at, length-take-le, append_assoc, take_more}
-use Rattle.std.proofs.lemmas.Bool.{eq-eqb, ne_eqb, cond-true, cond-false, cases_Bool, cases_lt, cond_both, true≢false, and_from, and_left, and_right, le-leb, lt-leb}
+use Rattle.std.proofs.lemmas.Grind.{common_steps}
+use Rattle.std.proofs.Common.{◌≡◌, ℕ, zero, suc, ◌+◌, ◌<◌, ◌≤◌, true, false, List, [], ◌∷◌, length, get_or, take, drop, Ok, sym, refl, ap, ◌∙◌, arith, ◌≢◌}
+use Rattle.std.proofs.lemmas.Bool.{eq-eqb, ne_eqb, cond-true, cond-false, cond_both, and_from, le-leb}
 use Rattle.decimals.specs.Scan.{unblank}
-use Rattle.decimals.specs.Number.{blank}
+use Rattle.decimals.specs.Number.{blank, is_empty}
 use Rattle.codes.specs.Text.{word, after_word, padded, read_text, filled}
-use Rattle.refusals.specs.declared.Fault.TheVariants.{WrongText}
 
-pub word_yes : (xs : List ℕ) (i : ℕ) → i < length xs → (get_or xs i 0 ≡ 32 → ⊥) → length (word (drop i xs)) ≡ 1 + length (word (drop (i + 1) xs))
-word_yes xs i h e = ap length (at_drop_more word xs i 0 h ∙ cond-false _ _ _ (ne_eqb _ 32 e)) ∙ omega arith
+pub word_none : (x : ℕ) (xs : List ℕ) → x ≡ 32 → length (word (x ∷ xs)) ≡ 0
+word_none x xs e = ap length (cond-true _ _ _ (eq-eqb x 32 e))
 
-pub word_no : (xs : List ℕ) (i : ℕ) → i < length xs → get_or xs i 0 ≡ 32 → length (word (drop i xs)) ≡ 0
-word_no xs i h e = ap length (at_drop_more word xs i 0 h ∙ cond-true _ _ _ (eq-eqb _ 32 e))
-
-pub word_end : (xs : List ℕ) (i : ℕ) → length xs ≤ i → length (word (drop i xs)) ≡ 0
-word_end xs i h = ap length (at_drop_all word xs i h)
+pub word_more : (x : ℕ) (xs : List ℕ) → x ≢ 32 → length (word (x ∷ xs)) ≡ length (word xs) + 1
+word_more x xs n = ap length (cond-false _ _ _ (ne_eqb x 32 n)) ∙ omega arith
 
 -- a word is a front of the text, and what follows is the rest
 pub word_is : (t : List ℕ) → (take (length (word t)) t ≡ word t) × (drop (length (word t)) t ≡ after_word t)
 word_is [] = (refl, refl)
-word_is (c ∷ cs) =
-    ⊎_elim
-    (λ y.
-    let w : word (c ∷ cs) ≡ [] = cond-true _ _ _ y in
-    let a : after_word (c ∷ cs) ≡ c ∷ cs = cond-true _ _ _ y in
-    (ap (λ u. take (length u) (c ∷ cs)) w ∙ sym w, ap (λ u. drop (length u) (c ∷ cs)) w ∙ sym a))
-    (λ n.
-    let w : word (c ∷ cs) ≡ c ∷ word cs = cond-false _ _ _ n in
-    let a : after_word (c ∷ cs) ≡ after_word cs = cond-false _ _ _ n in
-    let r = word_is cs in
-    (ap (λ u. take (length u) (c ∷ cs)) w ∙ (ap (λ u. c ∷ u) r.0 ∙ sym w), ap (λ u. drop (length u) (c ∷ cs)) w ∙ (r.1 ∙ sym a)))
-    (cases_Bool (eqb c 32))
+word_is (c ∷ cs) = let r = word_is cs in (grind (arith, common_steps), grind (arith, common_steps))
 
 pub text_yes : (n : ℕ) (bs : List ℕ) → 1 ≤ length (word (unblank bs)) → length (word (unblank bs)) ≤ n → blank (after_word (unblank bs)) ≡ true → read_text n bs ≡ Ok (padded n (word (unblank bs)))
 text_yes n bs a b e = cond-true _ _ _ (and_from _ _ (le-leb 1 (length (word (unblank bs))) a) (and_from _ _ (le-leb (length (word (unblank bs))) n b) e))
 
-pub text_empty : (n : ℕ) (bs : List ℕ) → length (word (unblank bs)) < 1 → read_text n bs ≡ Err WrongText
-text_empty n bs h = cond-false _ _ _ (and_left (leb 1 (length (word (unblank bs)))) (leb (length (word (unblank bs))) n && blank (after_word (unblank bs))) (lt-leb 1 (length (word (unblank bs))) h))
+pub word_front : (t : List ℕ) (n : ℕ) → n ≡ length (word t) → take n t ≡ word t
+word_front t n e = ap (λ k. take k t) e ∙ (word_is t).0
 
-pub text_long : (n : ℕ) (bs : List ℕ) → n < length (word (unblank bs)) → read_text n bs ≡ Err WrongText
-text_long n bs h = cond-false _ _ _ (and_right (leb 1 (length (word (unblank bs)))) (leb (length (word (unblank bs))) n && blank (after_word (unblank bs))) (and_left (leb (length (word (unblank bs))) n) (blank (after_word (unblank bs))) (lt-leb (length (word (unblank bs))) n h)))
-
-pub text_more : (n : ℕ) (bs : List ℕ) → blank (after_word (unblank bs)) ≡ false → read_text n bs ≡ Err WrongText
-text_more n bs h = cond-false _ _ _ (and_right (leb 1 (length (word (unblank bs)))) (leb (length (word (unblank bs))) n && blank (after_word (unblank bs))) (and_right (leb (length (word (unblank bs))) n) (blank (after_word (unblank bs))) h))
-
--- what follows the word, as the code cuts it
-pub word_cut : (bs body : List ℕ) (n : ℕ) → body ≡ unblank bs → n ≡ length (word body) → take (length body - n) (drop n body) ≡ after_word (unblank bs)
-word_cut bs body n e l = take_rest body n ∙ (ap (λ k. drop k body) l ∙ ((word_is body).1 ∙ ap after_word e))
-
--- blanks that a text is written over, byte by byte
-pub over_more : (w : List ℕ) (n i : ℕ) → i < length w → length w ≤ n → set (take i w ++ replicate (n - i) 32) i (get_or w i 0) ≡ take (i + 1) w ++ replicate (n - (i + 1)) 32
-over_more w n i h l =
-    let k : n - i ≡ suc (n - (i + 1)) = omega arith in
-    let c : ℕ = get_or w i 0 in
-    let r : List ℕ = replicate (n - (i + 1)) 32 in
-    ap (λ k. set (take i w ++ replicate k 32) i c) k
-    ∙ (set_at (take i w) 32 r c i (length-take-le i w (omega arith))
-    ∙ (sym (append_assoc (take i w) (c ∷ []) r) ∙ ap (λ t. t ++ r) (sym (take_more w i 0 h))))
+pub word_rest : (t : List ℕ) (n : ℕ) → n ≡ length (word t) → drop n t ≡ after_word t
+word_rest t n e = ap (λ k. drop k t) e ∙ (word_is t).1
 
 -- ---- descriptions
 
@@ -64,16 +32,23 @@ pub filled_none : (t : List ℕ) → blank t ≡ true → filled t ≡ 0
 filled_none [] e = refl
 filled_none (c ∷ cs) e = cond-true _ _ _ e
 
-pub filled-end : (xs : List ℕ) (i : ℕ) → blank (take (length xs - i) (drop i xs)) ≡ true → filled (drop i xs) ≡ 0
-filled-end xs i e = filled_none (drop i xs) (ap blank (sym (take_rest xs i)) ∙ e)
+blank_all : (t : List ℕ) → ((k : ℕ) → k < length t → get_or t k 0 ≡ 32) → blank t ≡ true
+blank_all [] h = refl
+blank_all (c ∷ cs) h = let r = blank_all cs (λ k b. h (suc k) (omega arith)) in let e = h 0 (omega arith) in grind (arith, common_steps)
 
-pub filled_more : (xs : List ℕ) (i : ℕ) → blank (take (length xs - i) (drop i xs)) ≡ false → (i < length xs) × (filled (drop i xs) ≡ 1 + filled (drop (i + 1) xs))
-filled_more xs i e =
-    let f : blank (drop i xs) ≡ false = ap blank (sym (take_rest xs i)) ∙ e in
-    ⊎_elim
-    (λ h. (h, at_drop_more filled xs i 0 h ∙ cond-false _ _ _ (sym (at_drop_more blank xs i 0 h) ∙ f)))
-    (λ g. absurd (true≢false (sym (at_drop_all blank xs i g) ∙ f)))
-    (cases_lt i (length xs))
+blank_not : (t : List ℕ) (k : ℕ) → k < length t → get_or t k 0 ≢ 32 → blank t ≡ false
+blank_not [] k h n = absurd (omega arith)
+blank_not (c ∷ cs) zero h n = ap is_empty (cond-false _ _ _ (ne_eqb c 32 n))
+blank_not (c ∷ cs) (suc k) h n = let r = blank_not cs k (omega arith) n in grind (arith, common_steps)
+
+-- n bytes, of which the last is not blank, and blanks after them
+pub filled_is : (t : List ℕ) (n : ℕ) → n ≤ length t → ((k : ℕ) → n ≤ k → k < length t → get_or t k 0 ≡ 32) → ((k : ℕ) → n ≡ k + 1 → get_or t k 0 ≢ 32) → n ≡ filled t
+filled_is [] n h after last = omega arith
+filled_is (c ∷ cs) zero h after last = sym (filled_none (c ∷ cs) (blank_all (c ∷ cs) (λ k b. after k (omega arith) b)))
+filled_is (c ∷ cs) (suc n) h after last =
+    let e = filled_is cs n (omega arith) (λ k a b. after (suc k) (omega arith) (omega arith)) (λ k p. last (suc k) (omega arith)) in
+    let f : filled (c ∷ cs) ≡ 1 + filled cs = cond-false _ _ _ (blank_not (c ∷ cs) n (omega arith) (last n (omega arith))) in
+    omega (arith, e, f)
 
 pub filled_le : (t : List ℕ) → filled t ≤ length t
 filled_le [] = omega arith

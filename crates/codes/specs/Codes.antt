@@ -1,5 +1,6 @@
 -- Codes of one letter, and the kinds of a matrix.
 use Rattle.std.specs.Prelude.{◌≡◌, ℕ, cond, List, [], ◌∷◌, Some, None, Ok, Err, codes, Option, Result, ◌==◌}
+use Rattle.std.specs.Result.{result_map_both}
 use Rattle.refusals.specs.declared.Fault.{Fault}
 use Rattle.refusals.specs.declared.Fault.TheVariants.{WrongText}
 use Rattle.codes.specs.Order.{same_text}
@@ -12,11 +13,17 @@ use Rattle.codes.specs.declared.letters.Contents.TheVariants.{Stations, Orbits, 
 use Rattle.codes.specs.declared.letters.MatrixKind.{MatrixKind}
 use Rattle.codes.specs.declared.letters.MatrixKind.TheVariants.{Correlation, Covariance, Information}
 
--- a field of one column
-abbrev pub letter_of : List ℕ → Option ℕ
-letter_of [] = None
-letter_of (c ∷ []) = Some c
-letter_of (c ∷ (d ∷ ds)) = None
+-- a field of one column: what its letter gives
+abbrev pub by_letter : {A : Type 0} → (ℕ → Result A Fault) → List ℕ → Result A Fault
+by_letter at [] = Err WrongText
+by_letter at (c ∷ []) = at c
+by_letter at (c ∷ (d ∷ ds)) = Err WrongText
+
+-- the same, where a relation says what a letter may give
+abbrev pub ReadsCode : {A : Type 0} → (ℕ → Result A Fault → Type 0) → List ℕ → Result A Fault → Type 0
+ReadsCode gives [] r = r ≡ Err WrongText
+ReadsCode gives (c ∷ []) r = gives c r
+ReadsCode gives (c ∷ (d ∷ ds)) r = r ≡ Err WrongText
 
 -- C D L M P R
 abbrev pub technique_letter : Technique → ℕ
@@ -27,14 +34,13 @@ technique_letter LunarLaser = 77
 technique_letter Gnss = 80
 technique_letter Vlbi = 82
 
-abbrev pub technique_of : Option ℕ → Result Technique Fault
-technique_of None = Err WrongText
-technique_of (Some c) =
+abbrev pub technique_at : ℕ → Result Technique Fault
+technique_at c =
     cond (c == 67) (Ok Combined) (cond (c == 68) (Ok Doris) (cond (c == 76) (Ok SatelliteLaser)
     (cond (c == 77) (Ok LunarLaser) (cond (c == 80) (Ok Gnss) (cond (c == 82) (Ok Vlbi) (Err WrongText))))))
 
 abbrev pub read_technique : List ℕ → Result Technique Fault
-read_technique bs = technique_of (letter_of bs)
+read_technique bs = by_letter technique_at bs
 
 -- 0 1 2
 abbrev pub constraint_digit : Constraint → ℕ
@@ -42,12 +48,11 @@ constraint_digit Fixed = 48
 constraint_digit Significant = 49
 constraint_digit Unconstrained = 50
 
-abbrev pub constraint_of : Option ℕ → Result Constraint Fault
-constraint_of None = Err WrongText
-constraint_of (Some c) = cond (c == 48) (Ok Fixed) (cond (c == 49) (Ok Significant) (cond (c == 50) (Ok Unconstrained) (Err WrongText)))
+abbrev pub constraint_at : ℕ → Result Constraint Fault
+constraint_at c = cond (c == 48) (Ok Fixed) (cond (c == 49) (Ok Significant) (cond (c == 50) (Ok Unconstrained) (Err WrongText)))
 
 abbrev pub read_constraint : List ℕ → Result Constraint Fault
-read_constraint bs = constraint_of (letter_of bs)
+read_constraint bs = by_letter constraint_at bs
 
 -- S O E T C A
 abbrev pub contents_letter : Contents → ℕ
@@ -63,14 +68,16 @@ abbrev pub place_letter : Option Contents → ℕ
 place_letter None = 32
 place_letter (Some c) = contents_letter c
 
-abbrev pub contents_of : Option ℕ → Result (Option Contents) Fault
-contents_of None = Err WrongText
-contents_of (Some c) =
-    cond (c == 32) (Ok None) (cond (c == 83) (Ok (Some Stations)) (cond (c == 79) (Ok (Some Orbits)) (cond (c == 69) (Ok (Some EarthOrientation))
-    (cond (c == 84) (Ok (Some Troposphere)) (cond (c == 67) (Ok (Some CelestialFrame)) (cond (c == 65) (Ok (Some Antennas)) (Err WrongText)))))))
+abbrev pub contents_at : ℕ → Result Contents Fault
+contents_at c =
+    cond (c == 83) (Ok Stations) (cond (c == 79) (Ok Orbits) (cond (c == 69) (Ok EarthOrientation)
+    (cond (c == 84) (Ok Troposphere) (cond (c == 67) (Ok CelestialFrame) (cond (c == 65) (Ok Antennas) (Err WrongText))))))
+
+abbrev pub place_at : ℕ → Result (Option Contents) Fault
+place_at c = cond (c == 32) (Ok None) (result_map_both Some (λ e. e) (contents_at c))
 
 abbrev pub read_contents : List ℕ → Result (Option Contents) Fault
-read_contents bs = contents_of (letter_of bs)
+read_contents bs = by_letter place_at bs
 
 abbrev pub matrix_kind_text : MatrixKind → List ℕ
 matrix_kind_text Correlation = codes "CORR"

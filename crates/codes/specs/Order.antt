@@ -1,8 +1,9 @@
 -- Orders of texts and numbers.
-use Rattle.std.specs.Prelude.{◌≡◌, ℕ, Bool, true, false, List, [], ◌∷◌}
-use Rattle.std.specs.declared.cmp.Ordering.TheVariants.{Less, Equal, Greater}
+use Rattle.std.specs.Prelude.{◌≡◌, ℕ, Bool, List}
+use Rattle.std.specs.declared.cmp.Ordering.TheVariants.{Less, Equal}
 use Rattle.std.specs.declared.cmp.Ordering.{Ordering}
-use Rattle.std.specs.Ordering.{ordering_then, ordering_reverse, nat_cmp}
+use Rattle.std.specs.Cmp.Lexicographic.{slice_cmp}
+use Rattle.std.specs.Ordering.{ordering_reverse, is_eq, nat_cmp}
 
 -- a total order in which only equal values compare equal
 pub record TotalOrder {R : Type 0} (cmp : R → R → Ordering) : Type 0 where
@@ -12,15 +13,10 @@ pub record TotalOrder {R : Type 0} (cmp : R → R → Ordering) : Type 0 where
 
 -- texts byte by byte
 abbrev pub lex : List ℕ → List ℕ → Ordering
-lex [] [] = Equal
-lex [] (y ∷ ys) = Less
-lex (x ∷ xs) [] = Greater
-lex (x ∷ xs) (y ∷ ys) = ordering_then (nat_cmp x y) (lex xs ys)
+lex xs ys = slice_cmp nat_cmp xs ys
 
 abbrev pub is_equal : Ordering → Bool
-is_equal Less = false
-is_equal Equal = true
-is_equal Greater = false
+is_equal o = is_eq o
 
 -- whether two texts are the same
 abbrev pub same_text : List ℕ → List ℕ → Bool

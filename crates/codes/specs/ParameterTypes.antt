@@ -1,5 +1,6 @@
 -- The parameter types.
-use Rattle.std.specs.Prelude.{◌≡◌, ℕ, ◌<◌, Bool, false, cond, ◌||◌, List, [], ◌∷◌, ◌++◌, length, get_or, take, Some, None, Ok, Err, codes, Option, Result, slice_index_or}
+use Rattle.std.specs.Prelude.{◌≡◌, ℕ, ◌<◌, Bool, false, cond, ◌||◌, List, [], ◌∷◌, ◌++◌, length, take, Some, None, Ok, Err, codes, Option, Result, slice_index_or}
+use Rattle.std.specs.List.{find}
 use Rattle.refusals.specs.declared.Fault.{Fault}
 use Rattle.refusals.specs.declared.Fault.TheVariants.{WrongType}
 use Rattle.codes.specs.Order.{same_text}
@@ -39,8 +40,7 @@ abbrev pub no_type : ParameterType
 no_type = record { name = []; unit = []; contents = Stations; stationed = false }
 
 abbrev pub first_named : List ℕ → List ParameterType → Option ParameterType
-first_named name [] = None
-first_named name (t ∷ ts) = cond (same_text name t.name) (Some t) (first_named name ts)
+first_named name ts = find (λ t. same_text name t.name) ts
 
 abbrev pub type_named : List ℕ → Option ParameterType
 type_named name = first_named name types
@@ -55,8 +55,8 @@ check_type name unit = in_unit unit (type_named name)
 
 -- the types of the table are found by their names, each with its unit
 abbrev pub TypesComeBack : Type 0
-TypesComeBack = (i : ℕ) → i < length types → (type_named (get_or types i no_type).name ≡ Some (slice_index_or types i no_type))
-    × (check_type (get_or types i no_type).name (get_or types i no_type).unit ≡ Ok (slice_index_or types i no_type))
+TypesComeBack = (i : ℕ) → i < length types → (type_named (slice_index_or types i no_type).name ≡ Some (slice_index_or types i no_type))
+    × (check_type (slice_index_or types i no_type).name (slice_index_or types i no_type).unit ≡ Ok (slice_index_or types i no_type))
 
 -- a type that is found has the name that was sought and is in the table
 abbrev pub TypesAreNamed : Type 0
@@ -64,4 +64,4 @@ TypesAreNamed = (name : List ℕ) (t : ParameterType) → type_named name ≡ So
 
 -- names and units are texts as they are kept
 abbrev pub TypesAreTexts : Type 0
-TypesAreTexts = (i : ℕ) → i < length types → (read_text 6 (get_or types i no_type).name ≡ Ok (get_or types i no_type).name) × (read_text 4 (get_or types i no_type).unit ≡ Ok (get_or types i no_type).unit)
+TypesAreTexts = (i : ℕ) → i < length types → (read_text 6 (slice_index_or types i no_type).name ≡ Ok (slice_index_or types i no_type).name) × (read_text 4 (slice_index_or types i no_type).unit ≡ Ok (slice_index_or types i no_type).unit)

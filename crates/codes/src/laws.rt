@@ -6,34 +6,26 @@ ghost use Rattle.codes.specs.ParameterTypes.{TypesComeBack, TypesAreNamed, Types
 ghost use Rattle.codes.specs.Text.{TextsHaveForm, TextsComeBack, DescriptionsHaveForm, DescriptionsComeBack};
 
 // A text is one word among blanks, a description anything among blanks.
-pub fn texts_have_form() -> u8
+pub fn texts_have_form()
     ensures texts { TextsHaveForm }
     ensures descriptions { DescriptionsHaveForm }
-{
-    0
-}
+{}
 
 // What is kept of a text or a code is read as it was.
-pub fn codes_come_back() -> u8
+pub fn codes_come_back()
     ensures texts { TextsComeBack }
     ensures descriptions { DescriptionsComeBack }
     ensures codes { CodesComeBack }
-{
-    0
-}
+{}
 
 // Texts are totally ordered, byte by byte.
-pub fn texts_are_ordered() -> u8
+pub fn texts_are_ordered()
     ensures { TextsAreOrdered }
-{
-    0
-}
+{}
 
 // The rule of the table of parameter types.
-pub fn types_are_a_table() -> u8
+pub fn types_are_a_table()
     ensures found { TypesComeBack }
     ensures named { TypesAreNamed }
     ensures texts { TypesAreTexts }
-{
-    0
-}
+{}

@@ -1,38 +1,37 @@
 // Codes of one letter, and the kinds of a matrix: read and written.
 ghost use Rattle.std.specs.Prelude.{◌≡◌};
-ghost use Rattle.codes.specs.Codes.{letter_of, read_technique, technique_letter, read_constraint, constraint_digit, read_contents, contents_letter, read_matrix_kind, matrix_kind_text};
+ghost use Rattle.codes.specs.Codes.{ReadsCode, technique_letter, constraint_digit, contents_letter, read_contents, read_matrix_kind, matrix_kind_text};
 
-use crate::texts::same_text;
 use refusals::Fault;
 
-// The technique of the observations, or all of them combined.
-#[derive(Clone, Copy, PartialEq, Eq, Debug)]
+// The technique of the observations, or all of them combined. Techniques are ordered by their letters.
+#[derive(Clone, Copy, PartialEq, Eq, PartialOrd, Ord, Debug)]
 pub enum Technique {
-    Combined,
-    Doris,
-    SatelliteLaser,
-    LunarLaser,
-    Gnss,
-    Vlbi,
+    Combined = b'C' as isize,
+    Doris = b'D' as isize,
+    SatelliteLaser = b'L' as isize,
+    LunarLaser = b'M' as isize,
+    Gnss = b'P' as isize,
+    Vlbi = b'R' as isize,
 }
 
 // How tightly a parameter, or a solution, is constrained.
 #[derive(Clone, Copy, PartialEq, Eq, Debug)]
 pub enum Constraint {
-    Fixed,
-    Significant,
-    Unconstrained,
+    Fixed = b'0' as isize,
+    Significant = b'1' as isize,
+    Unconstrained = b'2' as isize,
 }
 
 // What sort of parameters a solution has.
 #[derive(Clone, Copy, PartialEq, Eq, Debug)]
 pub enum Contents {
-    Stations,
-    Orbits,
-    EarthOrientation,
-    Troposphere,
-    CelestialFrame,
-    Antennas,
+    Stations = b'S' as isize,
+    Orbits = b'O' as isize,
+    EarthOrientation = b'E' as isize,
+    Troposphere = b'T' as isize,
+    CelestialFrame = b'C' as isize,
+    Antennas = b'A' as isize,
 }
 
 // What the cells of a matrix are: correlations, covariances, or normal equations.
@@ -43,34 +42,72 @@ pub enum MatrixKind {
     Information,
 }
 
-// A field of one column.
-fn letter_of(text: &[u8]) -> Option<u8>
-    ensures { result ≡ letter_of text.now }
-{
-    if text.len() == 1 { Some(text[0]) } else { None }
-}
+impl TryFrom<u8> for Technique {
+    type Error = Fault;
 
-pub fn read_technique(text: &[u8]) -> Result<Technique, Fault>
-    ensures { result ≡ read_technique text.now }
-{
-    match letter_of(text) {
-        Some(b'C') => Ok(Technique::Combined),
-        Some(b'D') => Ok(Technique::Doris),
-        Some(b'L') => Ok(Technique::SatelliteLaser),
-        Some(b'M') => Ok(Technique::LunarLaser),
-        Some(b'P') => Ok(Technique::Gnss),
-        Some(b'R') => Ok(Technique::Vlbi),
-        _ => Err(Fault::WrongText),
+    ghost use Rattle.std.specs.Prelude.{◌≡◌};
+    ghost use Rattle.codes.specs.Codes.{technique_at};
+
+    ghost try_from_gives = { λ letter r. r ≡ technique_at letter };
+
+    fn try_from(letter: u8) -> Result<Technique, Fault> {
+        match letter {
+            b'C' => Ok(Technique::Combined),
+            b'D' => Ok(Technique::Doris),
+            b'L' => Ok(Technique::SatelliteLaser),
+            b'M' => Ok(Technique::LunarLaser),
+            b'P' => Ok(Technique::Gnss),
+            b'R' => Ok(Technique::Vlbi),
+            _ => Err(Fault::WrongText),
+        }
     }
 }
 
-pub fn read_constraint(text: &[u8]) -> Result<Constraint, Fault>
-    ensures { result ≡ read_constraint text.now }
+impl TryFrom<u8> for Constraint {
+    type Error = Fault;
+
+    ghost use Rattle.std.specs.Prelude.{◌≡◌};
+    ghost use Rattle.codes.specs.Codes.{constraint_at};
+
+    ghost try_from_gives = { λ digit r. r ≡ constraint_at digit };
+
+    fn try_from(digit: u8) -> Result<Constraint, Fault> {
+        match digit {
+            b'0' => Ok(Constraint::Fixed),
+            b'1' => Ok(Constraint::Significant),
+            b'2' => Ok(Constraint::Unconstrained),
+            _ => Err(Fault::WrongText),
+        }
+    }
+}
+
+impl TryFrom<u8> for Contents {
+    type Error = Fault;
+
+    ghost use Rattle.std.specs.Prelude.{◌≡◌};
+    ghost use Rattle.codes.specs.Codes.{contents_at};
+
+    ghost try_from_gives = { λ letter r. r ≡ contents_at letter };
+
+    fn try_from(letter: u8) -> Result<Contents, Fault> {
+        match letter {
+            b'S' => Ok(Contents::Stations),
+            b'O' => Ok(Contents::Orbits),
+            b'E' => Ok(Contents::EarthOrientation),
+            b'T' => Ok(Contents::Troposphere),
+            b'C' => Ok(Contents::CelestialFrame),
+            b'A' => Ok(Contents::Antennas),
+            _ => Err(Fault::WrongText),
+        }
+    }
+}
+
+// A field of one column: the technique, the constraint or the contents of its letter.
+pub fn read_code<T: TryFrom<u8, Error = Fault>>(text: &[u8]) -> Result<T, Fault>
+    ensures { ReadsCode T.try_from_gives text.now result }
 {
-    match letter_of(text) {
-        Some(b'0') => Ok(Constraint::Fixed),
-        Some(b'1') => Ok(Constraint::Significant),
-        Some(b'2') => Ok(Constraint::Unconstrained),
+    match text {
+        [letter] => T::try_from(*letter),
         _ => Err(Fault::WrongText),
     }
 }
@@ -79,30 +116,22 @@ pub fn read_constraint(text: &[u8]) -> Result<Constraint, Fault>
 pub fn read_contents(text: &[u8]) -> Result<Option<Contents>, Fault>
     ensures { result ≡ read_contents text.now }
 {
-    match letter_of(text) {
-        Some(b' ') => Ok(None),
-        Some(b'S') => Ok(Some(Contents::Stations)),
-        Some(b'O') => Ok(Some(Contents::Orbits)),
-        Some(b'E') => Ok(Some(Contents::EarthOrientation)),
-        Some(b'T') => Ok(Some(Contents::Troposphere)),
-        Some(b'C') => Ok(Some(Contents::CelestialFrame)),
-        Some(b'A') => Ok(Some(Contents::Antennas)),
-        _ => Err(Fault::WrongText),
+    match text {
+        b" " => Ok(None),
+        _ => read_code(text).map(Some),
     }
 }
 
 // The kind that a matrix's title names, or none.
+#[tactic(auto, using(crate::proofs::Spellings::kind_none))]
 pub fn read_matrix_kind(word: &[u8]) -> Option<MatrixKind>
     ensures { result ≡ read_matrix_kind word.now }
 {
-    if same_text(word, b"CORR") {
-        Some(MatrixKind::Correlation)
-    } else if same_text(word, b"COVA") {
-        Some(MatrixKind::Covariance)
-    } else if same_text(word, b"INFO") {
-        Some(MatrixKind::Information)
-    } else {
-        None
+    match word {
+        b"CORR" => Some(MatrixKind::Correlation),
+        b"COVA" => Some(MatrixKind::Covariance),
+        b"INFO" => Some(MatrixKind::Information),
+        _ => None,
     }
 }
 
@@ -110,14 +139,7 @@ impl Technique {
     pub fn letter(self) -> u8
         ensures { result ≡ technique_letter self }
     {
-        match self {
-            Technique::Combined => b'C',
-            Technique::Doris => b'D',
-            Technique::SatelliteLaser => b'L',
-            Technique::LunarLaser => b'M',
-            Technique::Gnss => b'P',
-            Technique::Vlbi => b'R',
-        }
+        self as u8
     }
 }
 
@@ -125,11 +147,7 @@ impl Constraint {
     pub fn digit(self) -> u8
         ensures { result ≡ constraint_digit self }
     {
-        match self {
-            Constraint::Fixed => b'0',
-            Constraint::Significant => b'1',
-            Constraint::Unconstrained => b'2',
-        }
+        self as u8
     }
 }
 
@@ -137,14 +155,7 @@ impl Contents {
     pub fn letter(self) -> u8
         ensures { result ≡ contents_letter self }
     {
-        match self {
-            Contents::Stations => b'S',
-            Contents::Orbits => b'O',
-            Contents::EarthOrientation => b'E',
-            Contents::Troposphere => b'T',
-            Contents::CelestialFrame => b'C',
-            Contents::Antennas => b'A',
-        }
+        self as u8
     }
 }
 

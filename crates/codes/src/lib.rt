@@ -3,6 +3,5 @@
 
 pub mod laws;
 pub mod letters;
-pub mod orders;
 pub mod texts;
 pub mod types;

@@ -12,11 +12,7 @@ fn word_length(s: &[u8]) -> usize
     ensures length { result ≡ length (word s.now) }
     ensures within { result ≤ length s.now }
 {
-    let mut i = 0;
-    while i < s.len() && s[i] != b' ' {
-        i += 1;
-    }
-    i
+    s.iter().position(|&c| c == b' ').unwrap_or(s.len())
 }
 
 // A text on the left of N bytes, and blanks after it.
@@ -25,30 +21,21 @@ fn left<const N: usize>(text: &[u8]) -> [u8; N]
     ensures { result ≡ padded N text.now }
 {
     let mut out = [b' '; N];
-    let mut i = 0;
-    while i < text.len() {
-        out[i] = text[i];
-        i += 1;
-    }
+    out[..text.len()].copy_from_slice(text);
     out
 }
 
 // One word among blanks, of at most N bytes.
+#[tactic(auto, using(crate::proofs::Words::word_front, crate::proofs::Words::word_rest))]
 pub fn read_text<const N: usize>(text: &[u8]) -> Result<[u8; N], Fault>
     ensures { result ≡ read_text N text.now }
 {
     let body = skip_blanks(text);
-    let n = word_length(body);
-    if n < 1 {
+    let (word, rest) = body.split_at(word_length(body));
+    if word.is_empty() || word.len() > N || !is_blank(rest) {
         return Err(Fault::WrongText);
     }
-    if n > N {
-        return Err(Fault::WrongText);
-    }
-    if !is_blank(&body[n..]) {
-        return Err(Fault::WrongText);
-    }
-    Ok(left(&body[0..n]))
+    Ok(left(word))
 }
 
 // How many bytes there are up to the last that is not blank.
@@ -56,11 +43,9 @@ fn filled_length(s: &[u8]) -> usize
     ensures length { result ≡ filled s.now }
     ensures within { result ≤ length s.now }
 {
-    let mut i = 0;
-    while !is_blank(&s[i..]) {
-        i += 1;
-    }
-    i
+    s.iter()
+        .rposition(|&c| c != b' ')
+        .map_or(0, |last| last + 1)
 }
 
 // A description: blanks at both ends are dropped, it may be empty or have blanks inside.
@@ -72,7 +57,7 @@ pub fn read_description<const N: usize>(text: &[u8]) -> Result<[u8; N], Fault>
     if n > N {
         return Err(Fault::WrongText);
     }
-    Ok(left(&body[0..n]))
+    Ok(left(&body[..n]))
 }
 
 // Columns that have to be blank.
@@ -90,30 +75,12 @@ pub fn check_blank(columns: &[u8]) -> Result<(), Fault>
 pub fn compare_text(a: &[u8], b: &[u8]) -> Ordering
     ensures { result ≡ lex a.now b.now }
 {
-    for i in 0..a.len() {
-        if i >= b.len() {
-            return Ordering::Greater;
-        }
-        if a[i] < b[i] {
-            return Ordering::Less;
-        }
-        if b[i] < a[i] {
-            return Ordering::Greater;
-        }
-    }
-    if a.len() < b.len() {
-        Ordering::Less
-    } else {
-        Ordering::Equal
-    }
+    a.cmp(b)
 }
 
 // Whether two texts are the same.
 pub fn same_text(a: &[u8], b: &[u8]) -> bool
     ensures { result ≡ same_text a.now b.now }
 {
-    match compare_text(a, b) {
-        Ordering::Equal => true,
-        _ => false,
-    }
+    a == b
 }

@@ -15,290 +15,74 @@ pub struct ParameterType {
     pub stationed: bool,
 }
 
-static TYPES: [ParameterType; 41] = [
-    ParameterType {
-        name: *b"STAX  ",
-        unit: *b"m   ",
-        contents: Contents::Stations,
-        stationed: true,
-    },
-    ParameterType {
-        name: *b"STAY  ",
-        unit: *b"m   ",
-        contents: Contents::Stations,
-        stationed: true,
-    },
-    ParameterType {
-        name: *b"STAZ  ",
-        unit: *b"m   ",
-        contents: Contents::Stations,
-        stationed: true,
-    },
-    ParameterType {
-        name: *b"XGC   ",
-        unit: *b"m   ",
-        contents: Contents::Stations,
-        stationed: false,
-    },
-    ParameterType {
-        name: *b"YGC   ",
-        unit: *b"m   ",
-        contents: Contents::Stations,
-        stationed: false,
-    },
-    ParameterType {
-        name: *b"ZGC   ",
-        unit: *b"m   ",
-        contents: Contents::Stations,
-        stationed: false,
-    },
-    ParameterType {
-        name: *b"VELX  ",
-        unit: *b"m/y ",
-        contents: Contents::Stations,
-        stationed: true,
-    },
-    ParameterType {
-        name: *b"VELY  ",
-        unit: *b"m/y ",
-        contents: Contents::Stations,
-        stationed: true,
-    },
-    ParameterType {
-        name: *b"VELZ  ",
-        unit: *b"m/y ",
-        contents: Contents::Stations,
-        stationed: true,
-    },
-    ParameterType {
-        name: *b"TROTOT",
-        unit: *b"m   ",
-        contents: Contents::Troposphere,
-        stationed: true,
-    },
-    ParameterType {
-        name: *b"TRODRY",
-        unit: *b"m   ",
-        contents: Contents::Troposphere,
-        stationed: true,
-    },
-    ParameterType {
-        name: *b"TROWET",
-        unit: *b"m   ",
-        contents: Contents::Troposphere,
-        stationed: true,
-    },
-    ParameterType {
-        name: *b"TGNTOT",
-        unit: *b"m   ",
-        contents: Contents::Troposphere,
-        stationed: true,
-    },
-    ParameterType {
-        name: *b"TGNDRY",
-        unit: *b"m   ",
-        contents: Contents::Troposphere,
-        stationed: true,
-    },
-    ParameterType {
-        name: *b"TGNWET",
-        unit: *b"m   ",
-        contents: Contents::Troposphere,
-        stationed: true,
-    },
-    ParameterType {
-        name: *b"TGETOT",
-        unit: *b"m   ",
-        contents: Contents::Troposphere,
-        stationed: true,
-    },
-    ParameterType {
-        name: *b"TGEDRY",
-        unit: *b"m   ",
-        contents: Contents::Troposphere,
-        stationed: true,
-    },
-    ParameterType {
-        name: *b"TGEWET",
-        unit: *b"m   ",
-        contents: Contents::Troposphere,
-        stationed: true,
-    },
-    ParameterType {
-        name: *b"AXI_OF",
-        unit: *b"m   ",
-        contents: Contents::Antennas,
-        stationed: true,
-    },
-    ParameterType {
-        name: *b"SATA_X",
-        unit: *b"m   ",
-        contents: Contents::Antennas,
-        stationed: false,
-    },
-    ParameterType {
-        name: *b"SATA_Y",
-        unit: *b"m   ",
-        contents: Contents::Antennas,
-        stationed: false,
-    },
-    ParameterType {
-        name: *b"SATA_Z",
-        unit: *b"m   ",
-        contents: Contents::Antennas,
-        stationed: false,
-    },
-    ParameterType {
-        name: *b"LOD   ",
-        unit: *b"ms  ",
-        contents: Contents::EarthOrientation,
-        stationed: false,
-    },
-    ParameterType {
-        name: *b"UT    ",
-        unit: *b"ms  ",
-        contents: Contents::EarthOrientation,
-        stationed: false,
-    },
-    ParameterType {
-        name: *b"XPO   ",
-        unit: *b"mas ",
-        contents: Contents::EarthOrientation,
-        stationed: false,
-    },
-    ParameterType {
-        name: *b"YPO   ",
-        unit: *b"mas ",
-        contents: Contents::EarthOrientation,
-        stationed: false,
-    },
-    ParameterType {
-        name: *b"NUT_LN",
-        unit: *b"mas ",
-        contents: Contents::EarthOrientation,
-        stationed: false,
-    },
-    ParameterType {
-        name: *b"NUT_OB",
-        unit: *b"mas ",
-        contents: Contents::EarthOrientation,
-        stationed: false,
-    },
-    ParameterType {
-        name: *b"NUT_X ",
-        unit: *b"mas ",
-        contents: Contents::EarthOrientation,
-        stationed: false,
-    },
-    ParameterType {
-        name: *b"NUT_Y ",
-        unit: *b"mas ",
-        contents: Contents::EarthOrientation,
-        stationed: false,
-    },
-    ParameterType {
-        name: *b"XPOR  ",
-        unit: *b"ma/d",
-        contents: Contents::EarthOrientation,
-        stationed: false,
-    },
-    ParameterType {
-        name: *b"YPOR  ",
-        unit: *b"ma/d",
-        contents: Contents::EarthOrientation,
-        stationed: false,
-    },
-    ParameterType {
-        name: *b"NUTRLN",
-        unit: *b"ma/d",
-        contents: Contents::EarthOrientation,
-        stationed: false,
-    },
-    ParameterType {
-        name: *b"NUTROB",
-        unit: *b"ma/d",
-        contents: Contents::EarthOrientation,
-        stationed: false,
-    },
-    ParameterType {
-        name: *b"NUTR_X",
-        unit: *b"ma/d",
-        contents: Contents::EarthOrientation,
-        stationed: false,
-    },
-    ParameterType {
-        name: *b"NUTR_Y",
-        unit: *b"ma/d",
-        contents: Contents::EarthOrientation,
-        stationed: false,
-    },
-    ParameterType {
-        name: *b"RS_RA ",
-        unit: *b"rad ",
-        contents: Contents::CelestialFrame,
-        stationed: false,
-    },
-    ParameterType {
-        name: *b"RS_DE ",
-        unit: *b"rad ",
-        contents: Contents::CelestialFrame,
-        stationed: false,
-    },
-    ParameterType {
-        name: *b"RS_PL ",
-        unit: *b"rad ",
-        contents: Contents::CelestialFrame,
-        stationed: false,
-    },
-    ParameterType {
-        name: *b"RS_RAR",
-        unit: *b"rd/y",
-        contents: Contents::CelestialFrame,
-        stationed: false,
-    },
-    ParameterType {
-        name: *b"RS_DER",
-        unit: *b"rd/y",
-        contents: Contents::CelestialFrame,
-        stationed: false,
-    },
-];
-
-// The type at a place of the table.
-fn row(i: usize) -> ParameterType
-    requires { i < 41 }
-    ensures { result ≡ slice_index_or types i no_type }
-{
-    TYPES[i]
+// A row of the table.
+macro_rules! row {
+    ($name:literal, $unit:literal, $contents:ident, $stationed:literal) => {
+        ParameterType {
+            name: *$name,
+            unit: *$unit,
+            contents: Contents::$contents,
+            stationed: $stationed,
+        }
+    };
 }
+
+static TYPES: [ParameterType; 41] = [
+    row!(b"STAX  ", b"m   ", Stations, true),
+    row!(b"STAY  ", b"m   ", Stations, true),
+    row!(b"STAZ  ", b"m   ", Stations, true),
+    row!(b"XGC   ", b"m   ", Stations, false),
+    row!(b"YGC   ", b"m   ", Stations, false),
+    row!(b"ZGC   ", b"m   ", Stations, false),
+    row!(b"VELX  ", b"m/y ", Stations, true),
+    row!(b"VELY  ", b"m/y ", Stations, true),
+    row!(b"VELZ  ", b"m/y ", Stations, true),
+    row!(b"TROTOT", b"m   ", Troposphere, true),
+    row!(b"TRODRY", b"m   ", Troposphere, true),
+    row!(b"TROWET", b"m   ", Troposphere, true),
+    row!(b"TGNTOT", b"m   ", Troposphere, true),
+    row!(b"TGNDRY", b"m   ", Troposphere, true),
+    row!(b"TGNWET", b"m   ", Troposphere, true),
+    row!(b"TGETOT", b"m   ", Troposphere, true),
+    row!(b"TGEDRY", b"m   ", Troposphere, true),
+    row!(b"TGEWET", b"m   ", Troposphere, true),
+    row!(b"AXI_OF", b"m   ", Antennas, true),
+    row!(b"SATA_X", b"m   ", Antennas, false),
+    row!(b"SATA_Y", b"m   ", Antennas, false),
+    row!(b"SATA_Z", b"m   ", Antennas, false),
+    row!(b"LOD   ", b"ms  ", EarthOrientation, false),
+    row!(b"UT    ", b"ms  ", EarthOrientation, false),
+    row!(b"XPO   ", b"mas ", EarthOrientation, false),
+    row!(b"YPO   ", b"mas ", EarthOrientation, false),
+    row!(b"NUT_LN", b"mas ", EarthOrientation, false),
+    row!(b"NUT_OB", b"mas ", EarthOrientation, false),
+    row!(b"NUT_X ", b"mas ", EarthOrientation, false),
+    row!(b"NUT_Y ", b"mas ", EarthOrientation, false),
+    row!(b"XPOR  ", b"ma/d", EarthOrientation, false),
+    row!(b"YPOR  ", b"ma/d", EarthOrientation, false),
+    row!(b"NUTRLN", b"ma/d", EarthOrientation, false),
+    row!(b"NUTROB", b"ma/d", EarthOrientation, false),
+    row!(b"NUTR_X", b"ma/d", EarthOrientation, false),
+    row!(b"NUTR_Y", b"ma/d", EarthOrientation, false),
+    row!(b"RS_RA ", b"rad ", CelestialFrame, false),
+    row!(b"RS_DE ", b"rad ", CelestialFrame, false),
+    row!(b"RS_PL ", b"rad ", CelestialFrame, false),
+    row!(b"RS_RAR", b"rd/y", CelestialFrame, false),
+    row!(b"RS_DER", b"rd/y", CelestialFrame, false),
+];
 
 // The type of a name, kept as six bytes.
 pub fn find_type(name: &[u8]) -> Option<ParameterType>
     ensures { result ≡ type_named name.now }
 {
-    let mut i = 0;
-    while i < 41 {
-        let t = row(i);
-        if same_text(name, &t.name) {
-            return Some(t);
-        }
-        i += 1;
-    }
-    None
+    TYPES.iter().find(|t| same_text(name, &t.name)).copied()
 }
 
 // The type of a name, where the unit is its own.
 pub fn check_type(name: &[u8], unit: &[u8]) -> Result<ParameterType, Fault>
     ensures { result ≡ check_type name.now unit.now }
 {
-    match find_type(name) {
-        Some(t) => {
-            if same_text(unit, &t.unit) {
-                Ok(t)
-            } else {
-                Err(Fault::WrongType)
-            }
-        }
-        None => Err(Fault::WrongType),
-    }
+    find_type(name)
+        .filter(|t| same_text(unit, &t.unit))
+        .ok_or(Fault::WrongType)
 }

@@ -1,8 +1,10 @@
 -- Epochs: what is written is read, and their order is that of time.
-use Rattle.std.proofs.Common.{◌≡◌, ℕ, zero, suc, ◌+◌, ◌-◌, ◌%◌, ◌<◌, ◌≤◌, Bool, cond, ◌&&◌, eqb, leb, ◌⊎◌, List, length, get_or, take, drop, Some, None, Ok, Err, Option, Result, Ordering, Less, Equal, sym, refl, ap, ◌∙◌, subst, inl, inr, ⊎_elim, mod-eq_of_lt, arith}
+use Rattle.std.proofs.Common.{◌≡◌, ℕ, zero, suc, ◌+◌, ◌-◌, ◌%◌, ◌<◌, ◌≤◌, Bool, cond, ◌&&◌, eqb, leb, List, length, get_or, take, drop, Some, None, Ok, Err, Option, Result, Less, Equal, refl, ap, ◌∙◌, subst, ⊎_elim, mod-eq_of_lt, arith}
 use Rattle.std.specs.Ordering.{ordering_then, ordering_reverse, nat_cmp}
-use Rattle.std.proofs.lemmas.Bool.{cond-true, cond-false, cond_both, ne_eqb, and_left, and_right, and_from, and_parts, le-leb, leb-true, cases_eq, cases_order}
+use Rattle.std.proofs.lemmas.Bool.{cond-true, cond-false, cond_both, ne_eqb, and_left, and_right, and_from, and_parts, le-leb, leb-true, cases_eq}
 use Rattle.std.proofs.lemmas.Bool.Decides.{nat_tests}
+use Rattle.std.proofs.lemmas.Grind.{common_steps}
+use Rattle.std.proofs.Common.{rules}
 use Rattle.std.proofs.lemmas.List.{length-take}
 use Rattle.decimals.specs.Numeral.{numeral}
 use Rattle.decimals.specs.Write.{fixed}
@@ -14,16 +16,12 @@ use Rattle.fields.specs.declared.epochs.Epoch.{Epoch}
 use Rattle.fields.specs.declared.epochs.Epoch.TheVariants.{Open, At}
 use Rattle.fields.specs.declared.epochs.Moment.{Moment}
 use Rattle.decimals.proofs.Faults.{no_fault}
-use Rattle.codes.proofs.Comparing.{then_flip, then_trans, both, rank_flip, rank_trans, rank_same, rank_less, rank_equal, rank_greater, not_less, not_equal}
+use Rattle.codes.proofs.Comparing.{then_order, rank_order}
+use Rattle.codes.specs.Order.{TotalOrder}
 
 -- whether the text has twelve bytes, with colons where they belong
 abbrev pub dotted : List ℕ → Bool
 dotted bs = eqb (length bs) 12 && (eqb (get_or bs 2 0) 58 && eqb (get_or bs 6 0) 58)
-
-pub not_dotted : (bs : List ℕ) → (length bs ≡ 12 → ⊥) ⊎ ((get_or bs 2 0 ≡ 58 → ⊥) ⊎ (get_or bs 6 0 ≡ 58 → ⊥)) → read_epoch bs ≡ Err WrongEpoch
-not_dotted bs (inl n) = cond-false _ _ _ (and_left (eqb (length bs) 12) (eqb (get_or bs 2 0) 58 && eqb (get_or bs 6 0) 58) (ne_eqb (length bs) 12 n))
-not_dotted bs (inr (inl n)) = cond-false _ _ _ (and_right (eqb (length bs) 12) (eqb (get_or bs 2 0) 58 && eqb (get_or bs 6 0) 58) (and_left (eqb (get_or bs 2 0) 58) (eqb (get_or bs 6 0) 58) (ne_eqb (get_or bs 2 0) 58 n)))
-not_dotted bs (inr (inr n)) = cond-false _ _ _ (and_right (eqb (length bs) 12) (eqb (get_or bs 2 0) 58 && eqb (get_or bs 6 0) 58) (and_right (eqb (get_or bs 2 0) 58) (eqb (get_or bs 6 0) 58) (ne_eqb (get_or bs 6 0) 58 n)))
 
 -- ---- what is written is read
 
@@ -101,43 +99,32 @@ moments_come_back = (λ bs m x. moment_good (read_epoch bs) m (read_good bs) x, 
 same_moment : (a b : Moment) → a.year ≡ b.year → a.day ≡ b.day → a.second ≡ b.second → a ≡ b
 same_moment a b x y z = ap (λ t. record { year = t; day = a.day; second = a.second }) x ∙ (ap (λ t. record { year = b.year; day = t; second = a.second }) y ∙ ap (λ t. record { year = b.year; day = b.day; second = t }) z)
 
-moment_flip : (a b : Moment) → moment_order a b ≡ ordering_reverse (moment_order b a)
-moment_flip a b = then_flip _ _ _ _ (rank_flip a.year b.year) (then_flip _ _ _ _ (rank_flip a.day b.day) (rank_flip a.second b.second))
+day-second : TotalOrder (λ (x y : ℕ × ℕ). ordering_then (nat_cmp x.0 y.0) (nat_cmp x.1 y.1))
+day-second = then_order (λ (x : ℕ × ℕ). x.0) (λ x. x.1) nat_cmp nat_cmp rank_order rank_order (λ x y p q. ap (λ t. (t, x.1)) p ∙ ap (λ t. (y.0, t)) q)
 
-moment_same : (a b : Moment) → moment_order a b ≡ Equal → a ≡ b
-moment_same a b e =
-    let (y, r) = both (nat_cmp a.year b.year) (ordering_then (nat_cmp a.day b.day) (nat_cmp a.second b.second)) e in
-    let (d, s) = both (nat_cmp a.day b.day) (nat_cmp a.second b.second) r in
-    same_moment a b (rank_same a.year b.year y) (rank_same a.day b.day d) (rank_same a.second b.second s)
-
--- an answer on one part and then on another
-parts-trans : (x y z : ℕ) (dxy dyz dxz : Ordering) → (dxy ≡ Less → dyz ≡ Less → dxz ≡ Less) → ordering_then (nat_cmp x y) dxy ≡ Less → ordering_then (nat_cmp y z) dyz ≡ Less → ordering_then (nat_cmp x z) dxz ≡ Less
-parts-trans x y z dxy dyz dxz = then_trans (nat_cmp x y) (nat_cmp y z) (nat_cmp x z) dxy dyz dxz (rank_trans x y z) (λ e. ap (λ t. nat_cmp t z) (rank_same x y e)) (λ e. ap (nat_cmp x) (sym (rank_same y z e)))
-
-moment_trans : (a b c : Moment) → moment_order a b ≡ Less → moment_order b c ≡ Less → moment_order a c ≡ Less
-moment_trans a b c =
-    parts-trans a.year b.year c.year _ _ _ (parts-trans a.day b.day c.day _ _ _ (rank_trans a.second b.second c.second))
+moments_are_ordered : TotalOrder moment_order
+moments_are_ordered = then_order (λ (m : Moment). m.year) (λ m. (m.day, m.second)) nat_cmp (λ x y. ordering_then (nat_cmp x.0 y.0) (nat_cmp x.1 y.1)) rank_order day-second
+    (λ a b p q. same_moment a b p (ap (λ t. t.0) q) (ap (λ t. t.1) q))
 
 epoch-flip : (a b : Epoch) → epoch_order a b ≡ ordering_reverse (epoch_order b a)
 epoch-flip Open Open = refl
 epoch-flip Open (At b) = refl
 epoch-flip (At a) Open = refl
-epoch-flip (At a) (At b) = moment_flip a b
+epoch-flip (At a) (At b) = moments_are_ordered.flip a b
 
 epoch-trans : (a b c : Epoch) → epoch_order a b ≡ Less → epoch_order b c ≡ Less → epoch_order a c ≡ Less
-epoch-trans Open Open Open p q = p
-epoch-trans Open (At b) Open p q = absurd (not_less q)
-epoch-trans (At a) Open Open p q = p
+epoch-trans Open Open c p q = q
+epoch-trans Open (At b) Open p q = search rules
+epoch-trans Open (At b) (At c) p q = refl
+epoch-trans (At a) Open c p q = search rules
 epoch-trans (At a) (At b) Open p q = q
-epoch-trans Open b (At c) p q = refl
-epoch-trans (At a) Open (At c) p q = absurd (not_less p)
-epoch-trans (At a) (At b) (At c) p q = moment_trans a b c p q
+epoch-trans (At a) (At b) (At c) p q = moments_are_ordered.trans a b c p q
 
 epoch-same : (a b : Epoch) → epoch_order a b ≡ Equal → a ≡ b
 epoch-same Open Open e = refl
-epoch-same Open (At b) e = absurd (not_equal e)
-epoch-same (At a) Open e = absurd (not_equal (ap ordering_reverse e))
-epoch-same (At a) (At b) e = ap At (moment_same a b e)
+epoch-same Open (At b) e = search rules
+epoch-same (At a) Open e = search rules
+epoch-same (At a) (At b) e = ap At (moments_are_ordered.same a b e)
 
 pub epochs_are_ordered : EpochsAreOrdered
 epochs_are_ordered = record { flip = epoch-flip; trans = epoch-trans; same = epoch-same }
@@ -162,44 +149,13 @@ by_day a b v w e h = let x = ap (λ y. days_of (y - 1951)) e in omega (arith, v.
 by_second : (a b : Moment) → a.year ≡ b.year → a.day ≡ b.day → a.second < b.second → instant a < instant b
 by_second a b e f h = let x = ap (λ y. days_of (y - 1951)) e in omega arith
 
--- two moments one of which is earlier by year, day or second
-pub record Earlier (a b : Moment) : Type 0 where
-  pub order : moment_order a b ≡ Less
-  pub time : instant a < instant b
-
-year_earlier : (a b : Moment) → Dated a → Dated b → a.year < b.year → Earlier a b
-year_earlier a b v w h = record { order = ap (λ o. ordering_then o (ordering_then (nat_cmp a.day b.day) (nat_cmp a.second b.second))) (rank_less a.year b.year h); time = by_year a b v w h }
-
-day_earlier : (a b : Moment) → Dated a → Dated b → a.year ≡ b.year → a.day < b.day → Earlier a b
-day_earlier a b v w e h = record {
-  order = ap (λ o. ordering_then o (ordering_then (nat_cmp a.day b.day) (nat_cmp a.second b.second))) (rank_equal a.year b.year e) ∙ ap (λ o. ordering_then o (nat_cmp a.second b.second)) (rank_less a.day b.day h);
-  time = by_day a b v w e h;
-}
-
-second_earlier : (a b : Moment) → a.year ≡ b.year → a.day ≡ b.day → a.second < b.second → Earlier a b
-second_earlier a b e f h = record {
-  order = ap (λ o. ordering_then o (ordering_then (nat_cmp a.day b.day) (nat_cmp a.second b.second))) (rank_equal a.year b.year e) ∙ (ap (λ o. ordering_then o (nat_cmp a.second b.second)) (rank_equal a.day b.day f) ∙ rank_less a.second b.second h);
-  time = by_second a b e f h;
-}
-
-earlier_order : (a b : Moment) → Earlier a b → moment_order a b ≡ nat_cmp (instant a) (instant b)
-earlier_order a b w = w.order ∙ sym (rank_less (instant a) (instant b) w.time)
-
-later_order : (a b : Moment) → Earlier b a → moment_order a b ≡ nat_cmp (instant a) (instant b)
-later_order a b w = moment_flip a b ∙ (ap ordering_reverse w.order ∙ sym (rank_greater (instant a) (instant b) w.time))
-
-moment_equal : (a : Moment) → moment_order a a ≡ Equal
-moment_equal a = ap (λ o. ordering_then o (ordering_then (nat_cmp a.day a.day) (nat_cmp a.second a.second))) (rank_equal a.year a.year refl) ∙ (ap (λ o. ordering_then o (nat_cmp a.second a.second)) (rank_equal a.day a.day refl) ∙ rank_equal a.second a.second refl)
-
 pub order_of_time : OrderOfTime
 order_of_time a b v w =
-    ⊎_elim
-    (λ y. ⊎_elim
-    (λ d. ⊎_elim
-    (λ s. let e = same_moment a b y d s in ap (λ t. moment_order t b) e ∙ (moment_equal b ∙ sym (rank_equal (instant a) (instant b) (ap instant e))))
-    (λ s. ⊎_elim (λ l. earlier_order a b (second_earlier a b y d l)) (λ g. later_order a b (second_earlier b a (sym y) (sym d) g)) s)
-    (cases_order a.second b.second))
-    (λ d. ⊎_elim (λ l. earlier_order a b (day_earlier a b v w y l)) (λ g. later_order a b (day_earlier b a w v (sym y) g)) d)
-    (cases_order a.day b.day))
-    (λ y. ⊎_elim (λ l. earlier_order a b (year_earlier a b v w l)) (λ g. later_order a b (year_earlier b a w v g)) y)
-    (cases_order a.year b.year)
+    let y = by_year a b v w in
+    let y' = by_year b a w v in
+    let d = by_day a b v w in
+    let d' = by_day b a w v in
+    let s = by_second a b in
+    let s' = by_second b a in
+    let e : a.year ≡ b.year → a.day ≡ b.day → a.second ≡ b.second → instant a ≡ instant b = λ p q r. ap instant (same_moment a b p q r) in
+    grind (arith, common_steps)

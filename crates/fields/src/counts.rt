@@ -11,10 +11,7 @@ use refusals::Fault;
 pub fn read_count(text: &[u8]) -> Result<u32, Fault>
     ensures { result ≡ read_count text.now }
 {
-    match read_numeral(skip_blanks(text)) {
-        Some(n) => Ok(n),
-        None => Err(Fault::WrongNumber),
-    }
+    read_numeral(skip_blanks(text)).ok_or(Fault::WrongNumber)
 }
 
 // An index, a row or a column, on the right of five columns.
@@ -22,7 +19,7 @@ pub fn write_index(n: u32) -> [u8; 5]
     ensures { result ≡ index_text n }
 {
     let mut out = [b' '; 5];
-    put_right(&mut out[0..5], false, n as u64);
+    put_right(&mut out, false, u64::from(n));
     out
 }
 
@@ -31,6 +28,6 @@ pub fn write_count(n: u32) -> [u8; 5]
     ensures { result ≡ count_text n }
 {
     let mut out = [b'0'; 5];
-    put_digits(&mut out[0..5], n as u64);
+    put_digits(&mut out, u64::from(n));
     out
 }

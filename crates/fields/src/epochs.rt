@@ -2,14 +2,13 @@
 ghost use Rattle.std.specs.Prelude.{◌≡◌, ◌^◌, ◌<◌, ◌≤◌, length};
 ghost use Rattle.fields.specs.Epoch.{epoch_at, read_epoch, read_moment, stamp, epoch_text, moment_text, moment_order, epoch_order};
 
-use codes::orders::{compare_numbers, then_by};
 use decimals::numerals::read_numeral;
 use decimals::writes::put_digits;
 use refusals::Fault;
 use std::cmp::Ordering;
 
-// A second of a day of a year, with the full year.
-#[derive(Clone, Copy, PartialEq, Eq, Debug)]
+// A second of a day of a year, with the full year. Moments are ordered by year, day and second.
+#[derive(Clone, Copy, PartialEq, Eq, PartialOrd, Ord, Debug)]
 pub struct Moment {
     pub year: u16,
     pub day: u16,
@@ -17,7 +16,8 @@ pub struct Moment {
 }
 
 // An epoch: open, which is written 00:000:00000, or at a moment.
-#[derive(Clone, Copy, PartialEq, Eq, Debug)]
+// It is no Option: an open epoch is a value that the format writes and orders, and its name says so.
+#[derive(Clone, Copy, PartialEq, Eq, PartialOrd, Ord, Debug)]
 pub enum Epoch {
     Open,
     At(Moment),
@@ -46,23 +46,13 @@ fn epoch_at(y: u32, d: u32, s: u32) -> Result<Epoch, Fault>
 pub fn read_epoch(text: &[u8]) -> Result<Epoch, Fault>
     ensures { result ≡ read_epoch text.now }
 {
-    if text.len() != 12 {
+    if text.len() != 12 || text[2] != b':' || text[6] != b':' {
         return Err(Fault::WrongEpoch);
     }
-    if text[2] != b':' {
-        return Err(Fault::WrongEpoch);
-    }
-    if text[6] != b':' {
-        return Err(Fault::WrongEpoch);
-    }
-    match (
-        read_numeral(&text[0..2]),
-        read_numeral(&text[3..6]),
-        read_numeral(&text[7..12]),
-    ) {
-        (Some(y), Some(d), Some(s)) => epoch_at(y, d, s),
-        _ => Err(Fault::WrongEpoch),
-    }
+    let year = read_numeral(&text[0..2]).ok_or(Fault::WrongEpoch)?;
+    let day = read_numeral(&text[3..6]).ok_or(Fault::WrongEpoch)?;
+    let second = read_numeral(&text[7..12]).ok_or(Fault::WrongEpoch)?;
+    epoch_at(year, day, second)
 }
 
 // An epoch that may not be open, as a header has it.
@@ -89,7 +79,7 @@ fn stamped(y: u64, d: u64, s: u64) -> [u8; 12]
 pub fn write_moment(m: &Moment) -> [u8; 12]
     ensures { result ≡ moment_text m.now }
 {
-    stamped(m.year as u64, m.day as u64, m.second as u64)
+    stamped(u64::from(m.year), u64::from(m.day), u64::from(m.second))
 }
 
 pub fn write_epoch(e: &Epoch) -> [u8; 12]
@@ -104,20 +94,12 @@ pub fn write_epoch(e: &Epoch) -> [u8; 12]
 pub fn compare_moments(a: &Moment, b: &Moment) -> Ordering
     ensures { result ≡ moment_order a.now b.now }
 {
-    let year = compare_numbers(a.year as u32, b.year as u32);
-    let day = compare_numbers(a.day as u32, b.day as u32);
-    let second = compare_numbers(a.second, b.second);
-    then_by(year, then_by(day, second))
+    a.cmp(b)
 }
 
 // Open comes first, then the order of time.
 pub fn compare_epochs(a: &Epoch, b: &Epoch) -> Ordering
     ensures { result ≡ epoch_order a.now b.now }
 {
-    match (a, b) {
-        (Epoch::Open, Epoch::Open) => Ordering::Equal,
-        (Epoch::Open, Epoch::At(_)) => Ordering::Less,
-        (Epoch::At(_), Epoch::Open) => Ordering::Greater,
-        (Epoch::At(m), Epoch::At(n)) => compare_moments(m, n),
-    }
+    a.cmp(b)
 }

@@ -7,7 +7,7 @@ ghost use Rattle.fields.specs.Examples.{WorkedExamples};
 ghost use Rattle.fields.specs.Widths.{WidthsAreExact};
 
 // What is read of a field is kept within its rule, and what is written of that is read as it was, in exactly its columns.
-pub fn fields_come_back() -> u8
+pub fn fields_come_back()
     ensures epochs { EpochsComeBack }
     ensures moments { MomentsComeBack }
     ensures counts { CountsComeBack }
@@ -15,21 +15,15 @@ pub fn fields_come_back() -> u8
     ensures latitudes { LatitudesComeBack }
     ensures heights { HeightsComeBack }
     ensures widths { WidthsAreExact }
-{
-    0
-}
+{}
 
 // Epochs are totally ordered, and those that are not open by time.
-pub fn epochs_are_ordered() -> u8
+pub fn epochs_are_ordered()
     ensures order { EpochsAreOrdered }
     ensures time { OrderOfTime }
-{
-    0
-}
+{}
 
 // The worked examples of the rules.
-pub fn examples_hold() -> u8
+pub fn examples_hold()
     ensures { WorkedExamples }
-{
-    0
-}
+{}

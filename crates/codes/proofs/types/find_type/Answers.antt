@@ -1,12 +1,13 @@
-use Rattle.std.proofs.Common.{sym, ◌∙◌, arith}
-use Rattle.codes.proofs.TypeTable.{look-found, look_more, look_none}
+use Rattle.std.proofs.Common.{◌∙◌, rules, tests}
+use Rattle.std.proofs.lemmas.Iterator.{YieldsList-from_slice}
+use Rattle.std.proofs.lemmas.Iterator.Search.{find_from_yields_List}
+use Rattle.codes.specs.Order.{same_text}
+use Rattle.codes.specs.ParameterTypes.{types}
+use Rattle.codes.specs.declared.types.ParameterType.{ParameterType}
 use Rattle.codes.proofs.types.find_type.Goals as goal
 
-pub returns-then-same_text : goal.returns-then-same_text
-returns-then-same_text c = sym (look-found c.args.name.now c.loop-i.i c.row-t.result (omega arith) c.row-t.ensures (sym c.same_text.ensures ∙ c.if-same_text.true)) ∙ c.loop-i.invariant.1
-
-pub loop-i-preserved : goal.loop-i-preserved
-loop-i-preserved c = (omega arith, sym (look_more c.args.name.now c.loop-i.i c.row-t.result (omega arith) c.row-t.ensures (sym c.same_text.ensures ∙ c.if-same_text.false)) ∙ c.loop-i.invariant.1)
-
 pub returns : goal.returns
-returns c = sym (look_none c.args.name.now c.loop-i.i (omega arith)) ∙ c.loop-i.invariant.1
+unfolding types
+returns c =
+    let found = find_from_yields_List (λ (t : ParameterType). same_text c.args.name.now t.name) _ _ c.find.result c.find.ensures.ran (YieldsList-from_slice types cc) (λ x b q k. search (rules, tests)) in
+    c.copied.ensures ∙ found
