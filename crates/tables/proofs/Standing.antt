@@ -6,8 +6,6 @@ use Rattle.std.specs.List.{insert, remove}
 use Rattle.std.proofs.lemmas.List.Edits.{length-insert, length-remove}
 use Rattle.std.proofs.lemmas.List.{append_assoc, drop_at, drop-drop, drop-replicate, length-append, length-replicate, length-set, length-take-le, replicate-append-replicate, set-append_left, take_at}
 use Rattle.std.proofs.lemmas.Bool.{both_ways, cond-true, cond-false}
-use Rattle.tables.specs.declared.table.Place.{Place}
-use Rattle.tables.specs.declared.table.Place.TheVariants.{Found, Gap}
 use Rattle.tables.specs.Keys.{Order, Rising, by3}
 use Rattle.tables.specs.Lists.{place_from, place, holds, put, without, over, laid}
 use Rattle.tables.specs.Rows.{sought, filled, used_rows, put_answer_at, put_rows_at, drop_answer_at, drop_rows_at, put_answer, put_rows, drop_answer, drop_rows}
@@ -16,16 +14,16 @@ use Rattle.tables.proofs.Places.{sought-place}
 
 -- ---- what a place says of the list
 
-abbrev Sees : {R : Type 0} → List R → R → ℕ → Place → Bool → List R → List R → Type 0
-Sees xs r i (Found k) h p w = (j : ℕ) × ((k ≡ i + j) × ((j < length xs) × ((h ≡ true) × ((p ≡ set xs j r) × (w ≡ remove xs j)))))
-Sees xs r i (Gap k) h p w = (j : ℕ) × ((k ≡ i + j) × ((j ≤ length xs) × ((h ≡ false) × ((p ≡ insert xs j r) × (w ≡ xs)))))
+abbrev Sees : {R : Type 0} → List R → R → ℕ → Result ℕ ℕ → Bool → List R → List R → Type 0
+Sees xs r i (Ok k) h p w = (j : ℕ) × ((k ≡ i + j) × ((j < length xs) × ((h ≡ true) × ((p ≡ set xs j r) × (w ≡ remove xs j)))))
+Sees xs r i (Err k) h p w = (j : ℕ) × ((k ≡ i + j) × ((j ≤ length xs) × ((h ≡ false) × ((p ≡ insert xs j r) × (w ≡ xs)))))
 
-shift : {R : Type 0} (xs : List R) (r x : R) (i : ℕ) (q : Place) (h : Bool) (p w : List R) → Sees xs r (i + 1) q h p w → Sees (x ∷ xs) r i q h (x ∷ p) (x ∷ w)
-shift xs r x i (Found k) h p w (j, (e, (lt, (t, (a, b))))) = (suc j, (omega arith, (omega arith, (t, (ap (λ l. x ∷ l) a, ap (λ l. x ∷ l) b)))))
-shift xs r x i (Gap k) h p w (j, (e, (lt, (t, (a, b))))) = (suc j, (omega arith, (omega arith, (t, (ap (λ l. x ∷ l) a, ap (λ l. x ∷ l) b)))))
+shift : {R : Type 0} (xs : List R) (r x : R) (i : ℕ) (q : Result ℕ ℕ) (h : Bool) (p w : List R) → Sees xs r (i + 1) q h p w → Sees (x ∷ xs) r i q h (x ∷ p) (x ∷ w)
+shift xs r x i (Ok k) h p w (j, (e, (lt, (t, (a, b))))) = (suc j, (omega arith, (omega arith, (t, (ap (λ l. x ∷ l) a, ap (λ l. x ∷ l) b)))))
+shift xs r x i (Err k) h p w (j, (e, (lt, (t, (a, b))))) = (suc j, (omega arith, (omega arith, (t, (ap (λ l. x ∷ l) a, ap (λ l. x ∷ l) b)))))
 
-turn : {R : Type 0} (o : Ordering) (xs : List R) (r x : R) (i : ℕ) (q : Place) (h : Bool) (p w : List R) → Sees xs r (i + 1) q h p w
-    → Sees (x ∷ xs) r i (by3 o q (Found i) (Gap i)) (by3 o h true false) (by3 o (x ∷ p) (r ∷ xs) (r ∷ x ∷ xs)) (by3 o (x ∷ w) xs (x ∷ xs))
+turn : {R : Type 0} (o : Ordering) (xs : List R) (r x : R) (i : ℕ) (q : Result ℕ ℕ) (h : Bool) (p w : List R) → Sees xs r (i + 1) q h p w
+    → Sees (x ∷ xs) r i (by3 o q (Ok i) (Err i)) (by3 o h true false) (by3 o (x ∷ p) (r ∷ xs) (r ∷ x ∷ xs)) (by3 o (x ∷ w) xs (x ∷ xs))
 turn Less xs r x i q h p w s = shift xs r x i q h p w s
 turn Equal xs r x i q h p w s = (0, (omega arith, (omega arith, (refl, (refl, refl)))))
 turn Greater xs r x i q h p w s = (0, (omega arith, (omega arith, (refl, (refl, refl)))))
@@ -47,8 +45,8 @@ module _ {R : Type 0} (r blank : R) (rows xs p w : List R) (u : ℕ) (h : Bool) 
   abbrev drop_by : Result ℕ Fault
   drop_by = cond h (Ok (u - 1)) (Err RecordAbsent)
 
-  pub put_by_lem : (q : Place) → Sees xs r 0 q h p w → (put_answer_at q u (length rows) ≡ put_by) × (put_rows_at q r u rows ≡ cond (is_ok put_by) (over p rows) rows)
-  put_by_lem (Found k) (j, (e, (lt, (t, (a, b))))) =
+  pub put_by_lem : (q : Result ℕ ℕ) → Sees xs r 0 q h p w → (put_answer_at q u (length rows) ≡ put_by) × (put_rows_at q r u rows ≡ cond (is_ok put_by) (over p rows) rows)
+  put_by_lem (Ok k) (j, (e, (lt, (t, (a, b))))) =
       let same : k ≡ j = omega arith in
       let size : length p ≡ u = ap length a ∙ length-set xs j r ∙ long in
       let yes : put_by ≡ Ok u = cond-true h _ _ t in (
@@ -60,7 +58,7 @@ module _ {R : Type 0} (r blank : R) (rows xs p w : List R) (u : ℕ) (h : Bool) 
             ∙ ap (λ n. p ++ drop n rows) (sym size)
             ∙ sym (ap (λ (v : Result ℕ Fault). cond (is_ok v) (over p rows) rows) yes),
       )
-  put_by_lem (Gap k) (j, (e, (le, (t, (a, b))))) =
+  put_by_lem (Err k) (j, (e, (le, (t, (a, b))))) =
       let same : k ≡ j = omega arith in
       let size : length p ≡ u + 1 = ap length a ∙ length-insert xs j r le ∙ ap (λ n. n + 1) long in
       let no : put_by ≡ cond (ltb u (length rows)) (Ok (u + 1)) (Err TableFull) = cond-false h _ _ t in (
@@ -77,8 +75,8 @@ module _ {R : Type 0} (r blank : R) (rows xs p w : List R) (u : ℕ) (h : Bool) 
       room true = refl
       room false = refl
 
-  pub drop_by_lem : (q : Place) → Sees xs r 0 q h p w → (drop_answer_at q u ≡ drop_by) × (drop_rows_at q blank u rows ≡ cond (is_ok drop_by) (over (laid blank u w) rows) rows)
-  drop_by_lem (Found k) (j, (e, (lt, (t, (a, b))))) =
+  pub drop_by_lem : (q : Result ℕ ℕ) → Sees xs r 0 q h p w → (drop_answer_at q u ≡ drop_by) × (drop_rows_at q blank u rows ≡ cond (is_ok drop_by) (over (laid blank u w) rows) rows)
+  drop_by_lem (Ok k) (j, (e, (lt, (t, (a, b))))) =
       let same : k ≡ j = omega arith in
       let yes : drop_by ≡ Ok (u - 1) = cond-true h _ _ t in
       let less : length (remove xs j) + 1 ≡ length xs = length-remove xs j lt in
@@ -95,7 +93,7 @@ module _ {R : Type 0} (r blank : R) (rows xs p w : List R) (u : ℕ) (h : Bool) 
             ∙ ap (λ n. laid blank u w ++ drop n rows) (sym size)
             ∙ sym (ap (λ (v : Result ℕ Fault). cond (is_ok v) (over (laid blank u w) rows) rows) yes),
       )
-  drop_by_lem (Gap k) (j, (e, (le, (t, (a, b))))) =
+  drop_by_lem (Err k) (j, (e, (le, (t, (a, b))))) =
       let no : drop_by ≡ Err RecordAbsent = cond-false h _ _ t in
       (sym no, sym (ap (λ (v : Result ℕ Fault). cond (is_ok v) (over (laid blank u w) rows) rows) no))
 
@@ -188,17 +186,17 @@ module _ {R : Type 0} (b : R) (n : ℕ) (xs : List R) (fits : length xs ≤ n) w
       ∙ ap (λ k. ys ++ replicate k b) sum
 
 -- how long a list is after a put, and after a drop
-put-long : {R : Type 0} (xs : List R) (r : R) (q : Place) (h : Bool) (p w : List R) → Sees xs r 0 q h p w → length xs ≤ length p
-put-long xs r (Found k) h p w (j, (e, (lt, (t, (a, b))))) = omega (arith, ap length a, length-set xs j r)
-put-long xs r (Gap k) h p w (j, (e, (le, (t, (a, b))))) = omega (arith, ap length a, length-insert xs j r le)
+put-long : {R : Type 0} (xs : List R) (r : R) (q : Result ℕ ℕ) (h : Bool) (p w : List R) → Sees xs r 0 q h p w → length xs ≤ length p
+put-long xs r (Ok k) h p w (j, (e, (lt, (t, (a, b))))) = omega (arith, ap length a, length-set xs j r)
+put-long xs r (Err k) h p w (j, (e, (le, (t, (a, b))))) = omega (arith, ap length a, length-insert xs j r le)
 
-drop_short : {R : Type 0} (xs : List R) (r : R) (q : Place) (h : Bool) (p w : List R) → Sees xs r 0 q h p w → length w ≤ length xs
-drop_short xs r (Found k) h p w (j, (e, (lt, (t, (a, b))))) = omega (arith, ap length b, length-remove xs j lt)
-drop_short xs r (Gap k) h p w (j, (e, (le, (t, (a, b))))) = omega (arith, ap length b)
+drop_short : {R : Type 0} (xs : List R) (r : R) (q : Result ℕ ℕ) (h : Bool) (p w : List R) → Sees xs r 0 q h p w → length w ≤ length xs
+drop_short xs r (Ok k) h p w (j, (e, (lt, (t, (a, b))))) = omega (arith, ap length b, length-remove xs j lt)
+drop_short xs r (Err k) h p w (j, (e, (le, (t, (a, b))))) = omega (arith, ap length b)
 
-absent_same : {R : Type 0} (xs : List R) (r : R) (q : Place) (h : Bool) (p w : List R) → Sees xs r 0 q h p w → h ≡ false → xs ≡ w
-absent_same xs r (Found k) h p w (j, (e, (lt, (t, (a, b))))) n = absurd (both_ways h n t)
-absent_same xs r (Gap k) h p w (j, (e, (le, (t, (a, b))))) n = sym b
+absent_same : {R : Type 0} (xs : List R) (r : R) (q : Result ℕ ℕ) (h : Bool) (p w : List R) → Sees xs r 0 q h p w → h ≡ false → xs ≡ w
+absent_same xs r (Ok k) h p w (j, (e, (lt, (t, (a, b))))) n = absurd (both_ways h n t)
+absent_same xs r (Err k) h p w (j, (e, (le, (t, (a, b))))) n = sym b
 
 either-laid : {R : Type 0} (b : R) (n : ℕ) (c : Bool) (ys zs : List R) → cond c (laid b n ys) (laid b n zs) ≡ laid b n (cond c ys zs)
 either-laid b n true ys zs = refl

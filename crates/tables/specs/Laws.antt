@@ -4,8 +4,6 @@ use Rattle.std.specs.declared.cmp.Ordering.TheVariants.{Less, Equal, Greater}
 use Rattle.std.specs.declared.cmp.Ordering.{Ordering}
 use Rattle.refusals.specs.declared.Fault.{Fault}
 use Rattle.refusals.specs.declared.Fault.TheVariants.{TableFull, RecordAbsent}
-use Rattle.tables.specs.declared.table.Place.{Place}
-use Rattle.tables.specs.declared.table.Place.TheVariants.{Found, Gap}
 use Rattle.tables.specs.Keys.{Rising}
 use Rattle.tables.specs.Lists.{place, holds, put, without, over, laid}
 use Rattle.tables.specs.Rows.{sought, put_answer, put_rows, drop_answer, drop_rows}
@@ -17,10 +15,10 @@ Among x (y ∷ ys) = (x ≡ y) ⊎ Among x ys
 
 -- ---- places
 
--- a place tells where r's key stands: at Found the record has r's key; at Gap those before have smaller keys, those from there on greater ones
-abbrev pub Tells : {R : Type 0} → (R → R → Ordering) → R → List R → Place → Type 0
-Tells cmp r xs (Found k) = (k < length xs) × (cmp (slice_index_or xs k r) r ≡ Equal)
-Tells cmp r xs (Gap k) =
+-- a place tells where r's key stands: at Ok the record has r's key; at Err those before have smaller keys, those from there on greater ones
+abbrev pub Tells : {R : Type 0} → (R → R → Ordering) → R → List R → Result ℕ ℕ → Type 0
+Tells cmp r xs (Ok k) = (k < length xs) × (cmp (slice_index_or xs k r) r ≡ Equal)
+Tells cmp r xs (Err k) =
     (k ≤ length xs)
     × ((i : ℕ) → i < k → cmp (slice_index_or xs i r) r ≡ Less)
     × ((i : ℕ) → k ≤ i → i < length xs → cmp (slice_index_or xs i r) r ≡ Greater)

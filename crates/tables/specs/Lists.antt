@@ -1,16 +1,14 @@
 -- Ordered lists of records: sorted insertion and removal.
-use Rattle.std.specs.Prelude.{ℕ, ◌+◌, ◌-◌, Bool, true, false, List, [], ◌∷◌, ◌++◌, length, drop, replicate}
+use Rattle.std.specs.Prelude.{ℕ, ◌+◌, ◌-◌, Bool, true, false, List, [], ◌∷◌, ◌++◌, length, drop, replicate, Ok, Err, Result}
 use Rattle.std.specs.declared.cmp.Ordering.{Ordering}
-use Rattle.tables.specs.declared.table.Place.{Place}
-use Rattle.tables.specs.declared.table.Place.TheVariants.{Found, Gap}
 use Rattle.tables.specs.Keys.{by3}
 
--- where the record of r's key stands in xs, counted from i, or the place before which it would go
-abbrev pub place_from : {R : Type 0} → (R → R → Ordering) → R → ℕ → List R → Place
-place_from cmp r i [] = Gap i
-place_from cmp r i (x ∷ xs) = by3 (cmp x r) (place_from cmp r (i + 1) xs) (Found i) (Gap i)
+-- where the record of r's key stands in xs, counted from i (Ok), or the place before which it would go (Err)
+abbrev pub place_from : {R : Type 0} → (R → R → Ordering) → R → ℕ → List R → Result ℕ ℕ
+place_from cmp r i [] = Err i
+place_from cmp r i (x ∷ xs) = by3 (cmp x r) (place_from cmp r (i + 1) xs) (Ok i) (Err i)
 
-abbrev pub place : {R : Type 0} → (R → R → Ordering) → R → List R → Place
+abbrev pub place : {R : Type 0} → (R → R → Ordering) → R → List R → Result ℕ ℕ
 place cmp r xs = place_from cmp r 0 xs
 
 -- whether xs has a record of r's key

@@ -1,13 +1,12 @@
 -- What the elements of a block state, in whatever order they stand. Assumes nothing.
-use Rattle.std.proofs.Common.{◌≡◌, ℕ, zero, suc, ◌-◌, ◌<◌, ◌≤◌, min, max, Bool, true, false, cond, ◌&&◌, eqb, leb, ◌⊎◌, List, [], ◌∷◌, ◌++◌, map, length, get_or, drop, Decides, Ordering, Equal, sym, refl, ap, ◌∙◌, subst, inl, inr, ⊎_elim, arith}
+use Rattle.std.proofs.Common.{◌≡◌, ℕ, zero, suc, ◌-◌, ◌<◌, ◌≤◌, min, max, Bool, true, false, cond, ◌&&◌, eqb, leb, ◌⊎◌, List, [], ◌∷◌, ◌++◌, map, length, get_or, drop, is_ok, Ok, Err, Result, Decides, Ordering, Equal, sym, refl, ap, ◌∙◌, subst, inl, inr, ⊎_elim, arith}
 use native.Mathlib.Nat.{max_comm, min_comm}
+use Rattle.std.specs.Result.{result_unwrap_or}
 use Rattle.std.proofs.lemmas.List.{get_or_append_left, get_or_default, get_or-map, length-map}
 use Rattle.std.proofs.lemmas.Bool.{cases_eq, cases_Bool, cond-true, cond-false, eq-eqb, eqb-true, and_parts, and_from, or_cases, both_ways, leb-true}
 use Rattle.std.proofs.lemmas.Bool.Decides.{same_from_decides, Decides-like}
-use Rattle.tables.specs.declared.table.Place.{Place}
-use Rattle.tables.specs.declared.table.Place.TheVariants.{Found, Gap}
 use Rattle.tables.specs.Keys.{Order}
-use Rattle.tables.specs.Rows.{sought, found, found_or, known, used_rows}
+use Rattle.tables.specs.Rows.{sought, known, used_rows}
 use Rattle.tables.specs.Laws.{Tells}
 use Rattle.tables.proofs.Places.{search_law}
 use Rattle.triangle.specs.declared.row.Element.{Element}
@@ -196,9 +195,9 @@ module _ (X : Type 0) (void : X → Bool) where
 -- ---- ranks
 
 module _ (R : Type 0) (cmp : R → R → Ordering) (o : Order cmp) where
-  told : (r : R) (xs : List R) (q : Place) → Tells cmp r xs q → found q ≡ true → (found_or q 0 < length xs) × (cmp (get_or xs (found_or q 0) r) r ≡ Equal)
-  told r xs (Found k) t e = t
-  told r xs (Gap k) t e = absurd (both_ways false refl e)
+  told : (r : R) (xs : List R) (q : Result ℕ ℕ) → Tells cmp r xs q → is_ok q ≡ true → (result_unwrap_or q 0 < length xs) × (cmp (get_or xs (result_unwrap_or q 0) r) r ≡ Equal)
+  told r xs (Ok k) t e = t
+  told r xs (Err k) t e = absurd (both_ways false refl e)
 
   pub ranks_found : RanksFound R cmp
   ranks_found used rows h r k =

@@ -1,6 +1,7 @@
 -- Copies of runs of places, and what they do to rows. Assumes nothing.
-use Rattle.std.proofs.Common.{◌≡◌, ℕ, ◌+◌, ◌-◌, ◌<◌, ◌≤◌, true, false, cond, not, ◌&&◌, eqb, ltb, leb, ◌≢◌, ◌⊎◌, List, length, get_or, set, sym, refl, ap, ◌∙◌, inl, inr, ⊎_elim, arith}
-use Rattle.std.proofs.lemmas.List.{get_or_read, get_or-set_same, get_or-set_other}
+use Rattle.std.proofs.Common.{◌≡◌, ℕ, ◌+◌, ◌-◌, ◌<◌, ◌≤◌, true, false, cond, not, ◌&&◌, eqb, ltb, leb, ◌≢◌, ◌⊎◌, List, ◌++◌, length, get_or, take, drop, set, replicate, sym, refl, ap, ◌∙◌, inl, inr, ⊎_elim, arith}
+use borrow.Rule.Slice.PartMut.{put_mid}
+use Rattle.std.proofs.lemmas.List.{get_or_append_left, get_or-append_right, get_or-drop, get_or_read, get_or-replicate, get_or-set_same, get_or-set_other, get_or-take, length-replicate, length-take-le}
 use Rattle.std.proofs.lemmas.Bool.{and_from, and_right, cases_lt, cases_eq, cases_order, cond-true, cond-false, eq-eqb, ne_eqb, le-leb, lt-leb, lt-ltb, le-ltb}
 use Rattle.std.proofs.lemmas.Bool.Decides.{nat_tests}
 use Rattle.triangle.specs.Triangle.{tri, skip, jump, copied}
@@ -47,6 +48,41 @@ outside a b i h ne =
     (λ lt. inl (omega (arith, tri-rows a i lt)))
     (λ ge. inr (omega (arith, tri-rows i a (omega arith), tri_more i)))
     (cases_lt a i)
+
+-- n places from the place `at` on become z
+pub filled_row : {X : Type 0} (z : X) (xs ys : List X) (at n r : ℕ) → at ≡ tri r → n ≡ r + 1 → at + n ≤ length xs → ys ≡ replicate n z
+    → (a b : ℕ) → b ≤ a → get_or (put_mid at n xs ys) (tri a + b) z ≡ cond (eqb a r) z (get_or xs (tri a + b) z)
+filled_row z xs ys at n r ea en fits is a b le =
+    let k = tri a + b in
+    let t = tri_more r in
+    let rest = drop n (drop at xs) in
+    let la : length (take at xs) ≡ at = length-take-le at xs (omega arith) in
+    let ly : length ys ≡ n = ap length is ∙ length-replicate n z in
+    ⊎_elim
+    (λ e.
+    let here : k ≡ at + b = omega (arith, ap tri e) in
+    cond_eq e
+    (get_or-append_right (take at xs) (ys ++ rest) at k z la (omega arith)
+    ∙ get_or_append_left ys rest z (k - at) (omega arith)
+    ∙ ap (λ l. get_or l (k - at) z) is
+    ∙ get_or-replicate n (k - at) z z (omega arith)))
+    (λ ne. cond_ne ne
+    (⊎_elim
+    (λ lt. get_or_append_left (take at xs) (ys ++ rest) z k (omega arith) ∙ get_or-take at xs k z (omega arith))
+    (λ ge.
+    get_or-append_right (take at xs) (ys ++ rest) at k z la (omega arith)
+    ∙ get_or-append_right ys rest n (k - at) z ly (omega arith)
+    ∙ get_or-drop n (drop at xs) (k - at - n) z
+    ∙ get_or-drop at xs (n + (k - at - n)) z
+    ∙ ap (λ m. get_or xs m z) (omega arith))
+    (outside a b r le ne)))
+    (cases_eq a r)
+  where
+    cond_eq : a ≡ r → get_or (put_mid at n xs ys) (tri a + b) z ≡ z → get_or (put_mid at n xs ys) (tri a + b) z ≡ cond (eqb a r) z (get_or xs (tri a + b) z)
+    cond_eq e h = h ∙ sym (cond-true (eqb a r) z _ (eq-eqb a r e))
+
+    cond_ne : a ≢ r → get_or (put_mid at n xs ys) (tri a + b) z ≡ get_or xs (tri a + b) z → get_or (put_mid at n xs ys) (tri a + b) z ≡ cond (eqb a r) z (get_or xs (tri a + b) z)
+    cond_ne ne h = h ∙ sym (cond-false (eqb a r) z _ (ne_eqb a r ne))
 
 -- row i in two runs into row i + 1, passing over column r
 pub lift_runs : {X : Type 0} (f g h : ℕ → X) (i r from to : ℕ) → from ≡ tri i → to ≡ from + i + 1 → r ≤ i

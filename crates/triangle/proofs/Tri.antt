@@ -4,7 +4,7 @@ use native.Mathlib.Nat.{max_comm, min_comm}
 use Rattle.std.proofs.lemmas.Bool.{cases_lt, cases_order, cases_eq, eq-eqb, ne_eqb, cond-false, and_left, and_right, and_parts, leb-true, ltb-true}
 use Rattle.std.proofs.lemmas.List.{get_or-set_same, get_or-set_other}
 use Rattle.std.proofs.lemmas.Nat.{mul-le}
-use Rattle.triangle.specs.Triangle.{tri, spot, cell, low, same, holds, openable, closable}
+use Rattle.triangle.specs.Triangle.{tri, spot, cell, low, same, seen, holds, openable, closable}
 
 pub tri_more : (n : ℕ) → tri (n + 1) ≡ tri n + (n + 1)
 tri_more n = rw add-one refl
@@ -90,6 +90,9 @@ cell_set_lem z xs i j v h a b =
         (cases_eq (min a b) (min i j)))
         (λ np. and_left (eqb (max a b) (max i j)) (eqb (min a b) (min i j)) (ne_eqb (max a b) (max i j) np))
         (cases_eq (max a b) (max i j))
+
+pub seen-within : (len i j : ℕ) → seen len i j ≡ true → spot i j < len
+seen-within len i j s = ltb-true (spot i j) len (and_parts (ltb (max i j) 2000) (ltb (spot i j) len) s).1
 
 pub holds_parts : (len n : ℕ) → true ≡ holds len n → (n ≤ 2000) × (tri n ≤ len)
 holds_parts len n e =

@@ -1,5 +1,5 @@
 -- What the elements of a block state, in whatever order they stand.
-use Rattle.std.specs.Prelude.{◌≡◌, ℕ, ◌<◌, min, Bool, true, false, List, ◌++◌, map, length, get_or, drop, slice_index_or}
+use Rattle.std.specs.Prelude.{◌≡◌, ℕ, ◌<◌, min, Bool, true, false, List, ◌++◌, map, length, drop, slice_index_or}
 use Rattle.std.specs.declared.cmp.Ordering.TheVariants.{Equal}
 use Rattle.std.specs.declared.cmp.Ordering.{Ordering}
 use Rattle.tables.specs.Keys.{Rising}
@@ -19,14 +19,14 @@ States void i j e = (void e.value ≡ false) × (same e.row e.column i j ≡ tru
 -- where all elements may be stated, each that is not zero is found at the ranks of its row and column
 abbrev pub EachStands : (X : Type 0) → (X → Bool) → Type 0
 EachStands X void = (ρ : List ℕ) (count : ℕ) (side : Side) (len : ℕ) (f : ℕ → ℕ → X) (es : List (Element X)) → Symmetric f → taken void ρ count side len f es ≡ length es
-    → (k : ℕ) (d : Element X) → k < length es → void (get_or es k d).value ≡ false
-    → run void ρ count side len f es (rank_of ρ (get_or es k d).row) (rank_of ρ (get_or es k d).column) ≡ (get_or es k d).value
+    → (k : ℕ) (d : Element X) → k < length es → void (slice_index_or es k d).value ≡ false
+    → run void ρ count side len f es (rank_of ρ (slice_index_or es k d).row) (rank_of ρ (slice_index_or es k d).column) ≡ (slice_index_or es k d).value
 
 -- a cell of two ranks that no element states is as it was
 abbrev pub OthersStay : (X : Type 0) → (X → Bool) → Type 0
 OthersStay X void = (ρ : List ℕ) (count : ℕ) (side : Side) (len : ℕ) (f : ℕ → ℕ → X) (es : List (Element X)) (a b : ℕ)
-    → ((k : ℕ) (d : Element X) → k < length es → void (get_or es k d).value ≡ false
-    → same (rank_of ρ (get_or es k d).row) (rank_of ρ (get_or es k d).column) a b ≡ false)
+    → ((k : ℕ) (d : Element X) → k < length es → void (slice_index_or es k d).value ≡ false
+    → same (rank_of ρ (slice_index_or es k d).row) (rank_of ρ (slice_index_or es k d).column) a b ≡ false)
     → run void ρ count side len f es a b ≡ f a b
 
 -- distinct indices from 1 to n have distinct ranks
@@ -40,7 +40,7 @@ Renumbered = (n : ℕ) (ρ : List ℕ) → Apart n ρ → (i j p q : ℕ) → co
 
 -- of a file whose elements may all be stated: the cell of two indices has the value that an element states for them, in either order, and else what it had
 pub record CellByIndex {X : Type 0} (void : X → Bool) (es : List (Element X)) (before after : X) (i j : ℕ) : Type 0 where
-  pub found : (k : ℕ) (d : Element X) → k < length es → States void i j (slice_index_or es k d) → after ≡ (get_or es k d).value
+  pub found : (k : ℕ) (d : Element X) → k < length es → States void i j (slice_index_or es k d) → after ≡ (slice_index_or es k d).value
   pub none : ((k : ℕ) (d : Element X) → k < length es → States void i j (slice_index_or es k d) → ⊥) → after ≡ before
 
 abbrev pub ByIndex : (X : Type 0) → (X → Bool) → Type 0

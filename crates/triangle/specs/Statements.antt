@@ -3,7 +3,8 @@ use Rattle.std.specs.Prelude.{ℕ, suc, ◌-◌, min, Bool, true, cond, ◌&&◌
 use Rattle.std.specs.declared.cmp.Ordering.{Ordering}
 use Rattle.refusals.specs.declared.Fault.{Fault}
 use Rattle.refusals.specs.declared.Fault.TheVariants.{TableLengths, OutOfStep, RecordAbsent}
-use Rattle.tables.specs.Rows.{sought, found_or, known, used_rows}
+use Rattle.std.specs.Result.{result_unwrap_or}
+use Rattle.tables.specs.Rows.{sought, known, used_rows}
 use Rattle.triangle.specs.declared.row.Element.{Element}
 use Rattle.triangle.specs.declared.row.Side.{Side}
 use Rattle.triangle.specs.declared.row.Side.TheVariants.{Lower, Upper}
@@ -13,7 +14,7 @@ use Rattle.triangle.specs.Triangle.{same, seen}
 
 -- the rank of r's key in the table, 0 where it is absent
 abbrev pub rank_in : {R : Type 0} → (R → R → Ordering) → ℕ → List R → R → ℕ
-rank_in cmp used rows r = found_or (sought cmp r (used_rows used rows)) 0
+rank_in cmp used rows r = result_unwrap_or (sought cmp r (used_rows used rows)) 0
 
 -- whether the table has each of the records
 abbrev pub all_known : {R : Type 0} → (R → R → Ordering) → ℕ → List R → List R → Bool

@@ -1,5 +1,5 @@
 -- A symmetric matrix kept as its lower triangle, row after row, in one list.
-use Rattle.std.specs.Prelude.{ℕ, zero, suc, ◌+◌, ◌-◌, min, max, Bool, cond, not, ◌&&◌, ◌||◌, List, [], ◌++◌, map, ◌==◌, nat_le, nat_lt, slice_index_or}
+use Rattle.std.specs.Prelude.{ℕ, zero, suc, ◌+◌, ◌-◌, ◌≤◌, min, max, Bool, cond, not, ◌&&◌, ◌||◌, List, [], ◌++◌, map, ◌==◌, nat_le, nat_lt, slice_index_or}
 use Rattle.std.specs.List.{range_with_len}
 use Rattle.decimals.specs.declared.number.Number.{Number}
 
@@ -29,6 +29,10 @@ abbrev pub same : ℕ → ℕ → ℕ → ℕ → Bool
 same i j a b = max a b == max i j && min a b == min i j
 
 -- there are at most 2000 rows, and a list of that length has them
+abbrev pub HasRows : ℕ → ℕ → Type 0
+HasRows len n = (n ≤ 2000) × (tri n ≤ len)
+
+-- the same, as a test
 abbrev pub holds : ℕ → ℕ → Bool
 holds len n = nat_le n 2000 && nat_le (tri n) len
 

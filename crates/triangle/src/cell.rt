@@ -83,17 +83,23 @@ pub(crate) fn has_rows(len: usize, n: usize) -> bool
     n <= RANKS && rows(n) <= len
 }
 
+// The place of the cell of i and j among len places, in either order; none outside the triangle.
+fn cell_place(len: usize, i: usize, j: usize) -> Option<usize>
+    ensures { result ≡ (if seen len i j then Some (spot i j) else None) }
+{
+    if i.max(j) >= RANKS {
+        return None;
+    }
+    let k = place(i, j);
+    if k < len { Some(k) } else { None }
+}
+
 // The cell of i and j, in either order; none outside the triangle.
 pub fn get_cell<T: Cell>(cells: &[T], i: usize, j: usize) -> Option<T>
     ensures { result ≡ (if seen (length cells.now) i j then Some (cell T.Cell.nought cells.now i j) else None) }
 {
-    if i.max(j) < RANKS {
-        let k = place(i, j);
-        if k < cells.len() {
-            return Some(cells[k]);
-        }
-    }
-    None
+    let k = cell_place(cells.len(), i, j)?;
+    Some(cells[k])
 }
 
 // Sets the cell of i and j, in either order; refused outside the triangle.
@@ -102,12 +108,7 @@ pub fn set_cell<T: Cell>(cells: &mut [T], i: usize, j: usize, v: T) -> Result<()
     ensures list { cells.new ≡ (if seen (length cells.old) i j then slice_set cells.old (spot i j) v else cells.old) }
     ensures matrix { (a b : ℕ) → cell T.Cell.nought cells.new a b ≡ (if seen (length cells.old) i j && same i j a b then v else cell T.Cell.nought cells.old a b) }
 {
-    if i.max(j) < RANKS {
-        let k = place(i, j);
-        if k < cells.len() {
-            cells[k] = v;
-            return Ok(());
-        }
-    }
-    Err(Fault::WrongCell)
+    let k = cell_place(cells.len(), i, j).ok_or(Fault::WrongCell)?;
+    cells[k] = v;
+    Ok(())
 }

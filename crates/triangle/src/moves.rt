@@ -1,25 +1,27 @@
 // Opening and closing a rank in place. Opening goes in two steps: first all the moves, then the zeros.
-ghost use Rattle.std.specs.Prelude.{◌≡◌, ℕ, suc, ◌+◌, ◌-◌, ◌<◌, ◌≤◌, false, not, ◌&&◌, ltb, ◌⊎◌, length, get_or, if◌then◌else◌, Ok, Err, ◌==◌, nat_eq, nat_le, nat_lt, slice_index_or};
+ghost use Rattle.std.specs.Prelude.{◌≡◌, ℕ, suc, ◌+◌, ◌-◌, ◌<◌, ◌≤◌, false, not, ◌&&◌, ◌⊎◌, length, if◌then◌else◌, Ok, Err, ◌==◌, nat_le, nat_lt, slice_index_or};
 ghost use Rattle.refusals.specs.declared.Fault.TheVariants.{TableFull, RecordAbsent};
-ghost use Rattle.triangle.specs.Triangle.{tri, cell, low, skip, jump, copied, spread, wiped, opened_in, closed_in, rows_of, openable, closable};
+ghost use Rattle.triangle.specs.Triangle.{tri, HasRows, cell, low, skip, jump, copied, spread, wiped, opened_in, closed_in, rows_of, openable, closable};
 
 use crate::cell::{Cell, RANKS, has_rows, rows};
 use refusals::Fault;
 
-// Copies count cells from the place `from` on to the place `to` on.
+// Copies count cells from the place `from` on to the place `to` on. By index: `copy_within` takes a fifth longer here.
 fn copy_run<T: Cell>(cells: &mut [T], from: usize, to: usize, count: usize)
-    requires { (from + count ≤ length cells.old) × ((to + count ≤ length cells.old) × ((to ≤ from) ⊎ (from + count ≤ to))) }
-    ensures { (k : ℕ) → slice_index_or cells.new k T.Cell.nought ≡ copied from to count (λ p. get_or cells.old p T.Cell.nought) k }
+    requires within { (from + count ≤ length cells.old) × (to + count ≤ length cells.old) }
+    requires apart { (to ≤ from) ⊎ (from + count ≤ to) }
+    ensures { (k : ℕ) → slice_index_or cells.new k T.Cell.nought ≡ copied from to count (λ p. slice_index_or cells.old p T.Cell.nought) k }
 {
     for j in 0..count {
         cells[to + j] = cells[from + j];
     }
 }
 
-// Copies row i into row i + 1, passing over column r.
+// Copies row i into row i + 1, passing over column r of row i + 1; `sink_row` passes over that of the row that it reads, so the two share only the copies.
 fn lift_row<T: Cell>(cells: &mut [T], i: usize, r: usize)
-    requires { (i < 2000) × ((r ≤ i) × (tri (suc (suc i)) ≤ length cells.old)) }
-    ensures { (a b : ℕ) → b ≤ a → low T.Cell.nought cells.new a b ≡ (if nat_eq a (i + 1) && not (b == r) then low T.Cell.nought cells.old i (skip r b) else low T.Cell.nought cells.old a b) }
+    requires rows { HasRows (length cells.old) (suc (suc i)) }
+    requires rank { r ≤ i }
+    ensures { (a b : ℕ) → b ≤ a → low T.Cell.nought cells.new a b ≡ (if a == i + 1 && not (b == r) then low T.Cell.nought cells.old i (skip r b) else low T.Cell.nought cells.old a b) }
 {
     let from = rows(i);
     let to = from + i + 1;
@@ -27,9 +29,10 @@ fn lift_row<T: Cell>(cells: &mut [T], i: usize, r: usize)
     copy_run(cells, from + r, to + r + 1, i + 1 - r);
 }
 
-// Moves the rows from r to n - 1 down by one row, each passing over column r.
+// Moves the rows from r to n - 1 down by one row, each passing over column r. By number, since a row's place follows from its number.
 fn lift<T: Cell>(cells: &mut [T], n: usize, r: usize)
-    requires { (n < 2000) × ((r ≤ n) × (tri (suc n) ≤ length cells.old)) }
+    requires rows { HasRows (length cells.old) (suc n) }
+    requires rank { r ≤ n }
     ensures { (a b : ℕ) → cell T.Cell.nought cells.new a b ≡ spread n r (cell T.Cell.nought cells.old) a b }
 {
     for i in (r..n).rev() {
@@ -39,19 +42,18 @@ fn lift<T: Cell>(cells: &mut [T], n: usize, r: usize)
 
 // Row r becomes zero.
 fn wipe_row<T: Cell>(cells: &mut [T], r: usize)
-    requires { (r < 2000) × (tri (suc r) ≤ length cells.old) }
-    ensures { (a b : ℕ) → b ≤ a → low T.Cell.nought cells.new a b ≡ (if nat_eq a r then T.Cell.nought else low T.Cell.nought cells.old a b) }
+    requires { HasRows (length cells.old) (suc r) }
+    ensures { (a b : ℕ) → b ≤ a → low T.Cell.nought cells.new a b ≡ (if a == r then T.Cell.nought else low T.Cell.nought cells.old a b) }
 {
     let base = rows(r);
-    for j in 0..r + 1 {
-        cells[base + j] = T::zero();
-    }
+    cells[base..base + r + 1].fill_with(|| T::zero());
 }
 
-// Column r becomes zero in the rows past r, up to row n.
+// Column r becomes zero in the rows past r, up to row n. By number, since its cells lie at uneven distances.
 fn wipe_column<T: Cell>(cells: &mut [T], n: usize, r: usize)
-    requires { (n < 2000) × ((r ≤ n) × (tri (suc n) ≤ length cells.old)) }
-    ensures { (a b : ℕ) → b ≤ a → low T.Cell.nought cells.new a b ≡ (if ltb r a && (nat_lt a (n + 1) && b == r) then T.Cell.nought else low T.Cell.nought cells.old a b) }
+    requires rows { HasRows (length cells.old) (suc n) }
+    requires rank { r ≤ n }
+    ensures { (a b : ℕ) → b ≤ a → low T.Cell.nought cells.new a b ≡ (if nat_lt r a && (nat_lt a (n + 1) && b == r) then T.Cell.nought else low T.Cell.nought cells.old a b) }
 {
     for k in r + 1..n + 1 {
         cells[rows(k) + r] = T::zero();
@@ -60,17 +62,19 @@ fn wipe_column<T: Cell>(cells: &mut [T], n: usize, r: usize)
 
 // The cells of rank r become zero, up to row n.
 fn wipe<T: Cell>(cells: &mut [T], n: usize, r: usize)
-    requires { (n < 2000) × ((r ≤ n) × (tri (suc n) ≤ length cells.old)) }
+    requires rows { HasRows (length cells.old) (suc n) }
+    requires rank { r ≤ n }
     ensures { (a b : ℕ) → cell T.Cell.nought cells.new a b ≡ wiped T.Cell.nought n r (cell T.Cell.nought cells.old) a b }
 {
     wipe_row(cells, r);
     wipe_column(cells, n, r);
 }
 
-// Copies row i + 1 into row i, passing over column r.
+// Copies row i + 1 into row i, passing over column r of row i + 1.
 fn sink_row<T: Cell>(cells: &mut [T], i: usize, r: usize)
-    requires { (i < 2000) × ((r ≤ i) × (tri (suc (suc i)) ≤ length cells.old)) }
-    ensures { (a b : ℕ) → b ≤ a → low T.Cell.nought cells.new a b ≡ (if nat_eq a i then low T.Cell.nought cells.old (i + 1) (jump r b) else low T.Cell.nought cells.old a b) }
+    requires rows { HasRows (length cells.old) (suc (suc i)) }
+    requires rank { r ≤ i }
+    ensures { (a b : ℕ) → b ≤ a → low T.Cell.nought cells.new a b ≡ (if a == i then low T.Cell.nought cells.old (i + 1) (jump r b) else low T.Cell.nought cells.old a b) }
 {
     let to = rows(i);
     let from = to + i + 1;
@@ -78,9 +82,10 @@ fn sink_row<T: Cell>(cells: &mut [T], i: usize, r: usize)
     copy_run(cells, from + r + 1, to + r, i + 1 - r);
 }
 
-// Moves the rows past r up by one row, each passing over column r.
+// Moves the rows past r up by one row, each passing over column r. By number, as in `lift`.
 fn sink<T: Cell>(cells: &mut [T], n: usize, r: usize)
-    requires { (n ≤ 2000) × ((r < n) × (tri n ≤ length cells.old)) }
+    requires rows { HasRows (length cells.old) n }
+    requires rank { r < n }
     ensures { (a b : ℕ) → b ≤ a → low T.Cell.nought cells.new a b ≡ (if nat_le r a && nat_lt a (n - 1) then low T.Cell.nought cells.old (a + 1) (jump r b) else low T.Cell.nought cells.old a b) }
 {
     for i in r..n - 1 {

@@ -1,13 +1,13 @@
 // The working row: a slice with a place for each index of a file, which has the rank of that index's record while a matrix is read, and is zero otherwise.
 ghost use Rattle.std.specs.Prelude.{◌≡◌, ℕ, ◌-◌, ◌<◌, ◌≤◌, not, ◌&&◌, length, replicate, if◌then◌else◌, Ok, Err, slice_set};
-ghost use Rattle.refusals.specs.declared.Fault.TheVariants.{WrongCell};
+ghost use Rattle.refusals.specs.declared.Fault.TheVariants.{RecordAbsent, WrongCell};
 ghost use Rattle.tables.specs.Rows.{known};
 ghost use Rattle.triangle.specs.Triangle.{spot, cell};
 ghost use Rattle.triangle.specs.Statements.{rank_in, rank_answer, rank_granted, fill_answer, fill_row, counted, inside, on_side, rank_of, free, sound, stated, run, taken};
 
 use crate::cell::{Cell, RANKS, get_cell, set_cell};
 use refusals::Fault;
-use tables::table::{Place, Record, find_in};
+use tables::table::{Record, find_in};
 
 // Which triangle of the matrix a file states.
 #[derive(Clone, Copy)]
@@ -24,18 +24,14 @@ pub struct Element<T> {
     pub value: T,
 }
 
-// Writes the rank of r's record at place i of the row; false where the table has no such record.
-fn write_rank<R: Record>(row: &mut [u32], i: usize, rows: &[R], used: usize, r: &R) -> bool
-    requires { (i < length row.old) × (used ≤ 2000) }
-    ensures answer { result ≡ known R.Record.order r.now used rows.now }
-    ensures row { row.new ≡ (if result then slice_set row.old i (rank_in R.Record.order used rows.now r.now) else row.old) }
+// The rank of r's record in the table; refused where the table has no such record.
+fn find_rank<R: Record>(rows: &[R], used: usize, r: &R) -> Result<u32, Fault>
+    requires { used ≤ 2000 }
+    ensures { result ≡ (if known R.Record.order r.now used rows.now then Ok (rank_in R.Record.order used rows.now r.now) else Err RecordAbsent) }
 {
     match find_in(rows, used, r) {
-        Place::Found(k) => {
-            row[i] = k as u32;
-            true
-        }
-        Place::Gap(_) => false,
+        Ok(rank) => Ok(rank as u32),
+        Err(_) => Err(Fault::RecordAbsent),
     }
 }
 
@@ -56,18 +52,15 @@ pub fn rank_record<R: Record>(
     if !within(row.len(), index) {
         return Err(Fault::OutOfStep);
     }
-    if write_rank(row, index - 1, rows, used, r) {
-        Ok(())
-    } else {
-        Err(Fault::RecordAbsent)
-    }
+    row[index - 1] = find_rank(rows, used, r)?;
+    Ok(())
 }
 
 // Whether the index is one of 1 to n.
 fn within(n: usize, index: usize) -> bool
     ensures { result ≡ counted n index }
 {
-    1 <= index && index <= n
+    (1..=n).contains(&index)
 }
 
 // Makes the row zero.
@@ -93,11 +86,13 @@ pub fn fill_row<R: Record>(
     if records.len() > row.len() {
         return Err(Fault::OutOfStep);
     }
-    for i in 0..records.len() {
-        let r = records[i];
-        if !write_rank(row, i, rows, used, &r) {
-            clear_row(row);
-            return Err(Fault::RecordAbsent);
+    for (i, r) in records.iter().enumerate() {
+        match find_rank(rows, used, r) {
+            Ok(rank) => row[i] = rank,
+            Err(fault) => {
+                clear_row(row);
+                return Err(fault);
+            }
         }
     }
     Ok(())
@@ -120,65 +115,63 @@ fn on_side(side: Side, row: usize, column: usize) -> bool
     }
 }
 
-// Whether the element's cell, by the ranks of its row and column, is in the file's triangle and still zero.
-fn is_free<T: Cell>(cells: &[T], ranks: &[u32], count: usize, side: Side, e: &Element<T>) -> bool
-    ensures { result ≡ free T.Cell.is_nought ranks.now count side (length cells.now) (cell T.Cell.nought cells.now) e.now }
-{
-    if !within_count(count.min(ranks.len()), e.row, e.column) || !on_side(side, e.row, e.column) {
-        return false;
-    }
-    match get_cell(
-        cells,
-        ranks[e.row - 1] as usize,
-        ranks[e.column - 1] as usize,
-    ) {
-        Some(before) => before.is_zero(),
-        None => false,
-    }
+// The matrix of a file: by the working row the rank of each of its indices, how many of these there are, and the triangle that it states.
+#[derive(Clone, Copy)]
+pub struct FileMatrix<'a> {
+    pub ranks: &'a [u32],
+    pub count: usize,
+    pub side: Side,
 }
 
-// States an element of an L or a U file at the ranks of its row and column. Zero states nothing; a cell that is not free is refused.
-pub fn state_cell<T: Cell>(
-    cells: &mut [T],
-    ranks: &[u32],
-    count: usize,
-    side: Side,
-    e: Element<T>,
-) -> Result<(), Fault>
-    ensures answer { result ≡ (if sound T.Cell.is_nought ranks.now count side (length cells.old) (cell T.Cell.nought cells.old) e then Ok tt else Err WrongCell) }
-    ensures list { cells.new ≡ (if not (T.Cell.is_nought e.value) && free T.Cell.is_nought ranks.now count side (length cells.old) (cell T.Cell.nought cells.old) e then slice_set cells.old (spot (rank_of ranks.now e.row) (rank_of ranks.now e.column)) e.value else cells.old) }
-    ensures matrix { (a b : ℕ) → cell T.Cell.nought cells.new a b ≡ (if sound T.Cell.is_nought ranks.now count side (length cells.old) (cell T.Cell.nought cells.old) e then stated T.Cell.is_nought ranks.now (cell T.Cell.nought cells.old) e a b else cell T.Cell.nought cells.old a b) }
-{
-    if e.value.is_zero() {
-        return Ok(());
-    }
-    if !is_free(cells, ranks, count, side, &e) {
-        return Err(Fault::WrongCell);
-    }
-    set_cell(
-        cells,
-        ranks[e.row - 1] as usize,
-        ranks[e.column - 1] as usize,
-        e.value,
-    )
-}
-
-// States the elements up to the first that may not be stated, and says how many these are.
-pub fn state_all<T: Cell>(
-    cells: &mut [T],
-    ranks: &[u32],
-    count: usize,
-    side: Side,
-    elements: &[Element<T>],
-) -> usize
-    ensures answer { result ≡ taken T.Cell.is_nought ranks.now count side (length cells.old) (cell T.Cell.nought cells.old) elements.now }
-    ensures matrix { (a b : ℕ) → cell T.Cell.nought cells.new a b ≡ run T.Cell.is_nought ranks.now count side (length cells.old) (cell T.Cell.nought cells.old) elements.now a b }
-{
-    for k in 0..elements.len() {
-        match state_cell(cells, ranks, count, side, elements[k]) {
-            Ok(()) => {}
-            Err(_) => return k,
+impl FileMatrix<'_> {
+    // Whether the element's cell, by the ranks of its row and column, is in the file's triangle and still zero.
+    fn is_free<T: Cell>(&self, cells: &[T], e: &Element<T>) -> bool
+        ensures { result ≡ free T.Cell.is_nought self.now.ranks.now self.now.count self.now.side (length cells.now) (cell T.Cell.nought cells.now) e.now }
+    {
+        let FileMatrix { ranks, count, side } = *self;
+        if !within_count(count.min(ranks.len()), e.row, e.column)
+            || !on_side(side, e.row, e.column)
+        {
+            return false;
         }
+        get_cell(
+            cells,
+            ranks[e.row - 1] as usize,
+            ranks[e.column - 1] as usize,
+        )
+        .is_some_and(|before| before.is_zero())
     }
-    elements.len()
+
+    // States an element at the ranks of its row and column. Zero states nothing; a cell that is not free is refused.
+    pub fn state_cell<T: Cell>(&self, cells: &mut [T], e: Element<T>) -> Result<(), Fault>
+        ensures answer { result ≡ (if sound T.Cell.is_nought self.now.ranks.now self.now.count self.now.side (length cells.old) (cell T.Cell.nought cells.old) e then Ok tt else Err WrongCell) }
+        ensures list { cells.new ≡ (if not (T.Cell.is_nought e.value) && free T.Cell.is_nought self.now.ranks.now self.now.count self.now.side (length cells.old) (cell T.Cell.nought cells.old) e then slice_set cells.old (spot (rank_of self.now.ranks.now e.row) (rank_of self.now.ranks.now e.column)) e.value else cells.old) }
+        ensures matrix { (a b : ℕ) → cell T.Cell.nought cells.new a b ≡ (if sound T.Cell.is_nought self.now.ranks.now self.now.count self.now.side (length cells.old) (cell T.Cell.nought cells.old) e then stated T.Cell.is_nought self.now.ranks.now (cell T.Cell.nought cells.old) e a b else cell T.Cell.nought cells.old a b) }
+    {
+        if e.value.is_zero() {
+            return Ok(());
+        }
+        if !self.is_free(cells, &e) {
+            return Err(Fault::WrongCell);
+        }
+        set_cell(
+            cells,
+            self.ranks[e.row - 1] as usize,
+            self.ranks[e.column - 1] as usize,
+            e.value,
+        )
+    }
+
+    // States the elements up to the first that may not be stated, and says how many these are.
+    pub fn state_all<T: Cell>(&self, cells: &mut [T], elements: &[Element<T>]) -> usize
+        ensures answer { result ≡ taken T.Cell.is_nought self.now.ranks.now self.now.count self.now.side (length cells.old) (cell T.Cell.nought cells.old) elements.now }
+        ensures matrix { (a b : ℕ) → cell T.Cell.nought cells.new a b ≡ run T.Cell.is_nought self.now.ranks.now self.now.count self.now.side (length cells.old) (cell T.Cell.nought cells.old) elements.now a b }
+    {
+        for (k, e) in elements.iter().enumerate() {
+            if self.state_cell(cells, *e).is_err() {
+                return k;
+            }
+        }
+        elements.len()
+    }
 }

@@ -1,6 +1,5 @@
-use Rattle.std.proofs.Common.{arith}
-use Rattle.tables.proofs.Shifts.{insert_part}
+use Rattle.tables.proofs.Shifts.{shifted_up}
 use Rattle.tables.proofs.table.insert.Goals as goal
 
 pub returns : goal.returns
-returns g c = insert_part c.args.rows.now c.shift_up.new.part c.args.k c.args.used c.args.r (omega arith) (omega arith) c.shift_up.ensures
+returns g c = let e = shifted_up c.args.rows.now c.args.k c.args.r c.requires in cc c.copy_within.ensures.after

@@ -1,23 +1,12 @@
-use Rattle.std.proofs.Common.{◌≡◌, ◌+◌, ◌∙◌, arith}
-use Rattle.std.proofs.lemmas.Bool.Decides.{nat_tests}
-use Rattle.triangle.specs.Triangle.{tri, low}
-use Rattle.triangle.proofs.Tri.{low_put_same, low_put_other}
-use Rattle.triangle.proofs.Lifts.{wipe_row_step}
+use Rattle.std.proofs.Common.{◌≡◌, length, replicate, ap, ◌∙◌, arith, rules}
+use Rattle.tables.proofs.Shifts.{filled_with}
+use Rattle.triangle.proofs.Runs.{filled_row}
 use Rattle.triangle.proofs.moves.wipe_row.Goals as goal
 
-pub loop-j-init : goal.loop-j-init
-loop-j-init g c a b h = grind (arith, nat_tests)
-
-pub loop-j-preserved : goal.loop-j-preserved
-loop-j-preserved g c =
-    let r = c.args.r in
-    let j = c.loop-j.j in
-    let xs = c.loop-j.cells in
-    let e : c.rows-base.result + j ≡ tri r + j = omega arith in
-    let z = g.T.Cell.nought in
-    let v = c.zero.result in
-    wipe_row_step z (low z c.args.cells.now) (low z xs) (low z _) r j c.loop-j.invariant
-    (low_put_same z xs _ r j v e (omega arith) ∙ c.zero.ensures) (low_put_other z xs _ r j v e (omega arith))
-
 pub returns : goal.returns
-returns g c a b h = grind (arith, nat_tests, c.loop-j.invariant a b h)
+returns g c =
+    let (last, ran) = c.fill_with.ensures.ran in
+    let xs = c.fill_with.new.self in
+    let zeros : xs ≡ replicate (length xs) g.T.Cell.nought = filled_with _ g.T.Cell.nought (λ f h x e. let met = e.met in search rules) _ last xs ran in
+    filled_row g.T.Cell.nought c.args.cells.now xs c.rows-base.result _ c.args.r c.rows-base.ensures.count (omega arith) (omega arith)
+    (zeros ∙ ap (λ n. replicate n g.T.Cell.nought) (c.fill_with.ensures.len ∙ omega arith))
