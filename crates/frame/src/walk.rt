@@ -4,7 +4,7 @@ ghost use Rattle.frame.specs.Frames.{Spacious, all_taken, at, closed, ended, fra
 ghost use Rattle.frame.specs.Rules.{Exactly, Right};
 ghost use Rattle.std.specs.Str.{bytes_eq};
 
-use crate::heading::{Caption, Heading, begins, is_text};
+use crate::heading::{Caption, Heading, is_text};
 use crate::line::{Fetched, Line, LineKind, fetch};
 use crate::place::{Place, is_last, pass};
 use crate::title::Title;
@@ -188,7 +188,7 @@ fn step(progress: &mut Progress, place: Place, line: &Line) -> Result<(), Refusa
 fn is_header(line: &Line) -> bool
     ensures { result ≡ is_header line.now }
 {
-    begins(&line.columns, b"%=SNX 2.02")
+    line.columns.starts_with(b"%=SNX 2.02")
 }
 
 // Whether each block that the register takes up is there.
