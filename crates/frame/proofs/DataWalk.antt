@@ -1,20 +1,20 @@
 -- The walk over data lines, byte place by byte place.
-use Rattle.std.proofs.Common.{◌≡◌, ℕ, ◌+◌, ◌-◌, ◌≤◌, leb, List, [], ◌∷◌, length, drop, Some, None, Option, sym, refl, ap, ◌∙◌, subst, inl, inr, arith}
+use Rattle.std.proofs.Common.{◌≡◌, ℕ, ◌+◌, ◌-◌, ◌≤◌, leb, List, [], ◌∷◌, length, drop, Some, None, Ok, Err, Option, Result, sym, refl, ap, ◌∙◌, subst, inl, inr, arith}
 use Rattle.frame.proofs.Turns.{read, lines_cons}
 use Rattle.frame.specs.DataLines.{Walked, walked, walk_by, stay, walked_from, data_from, data_by, data_at, before, Yields}
 use Rattle.frame.specs.Lines.{lines, first_line, fits, line_of, fetched, passed, kind_of}
 use Rattle.frame.specs.declared.data.DataLine.{DataLine}
-use Rattle.frame.specs.declared.line.Fetched.{Fetched}
-use Rattle.frame.specs.declared.line.Fetched.TheVariants.{Fit}
 use Rattle.frame.specs.declared.line.Line.{Line}
 use Rattle.frame.specs.declared.line.LineKind.{LineKind}
 use Rattle.frame.specs.declared.line.LineKind.TheVariants.{Bound, Comment, Title, End, Data}
 use Rattle.frame.specs.declared.place.Place.{Place}
+use Rattle.refusals.specs.declared.Fault.{Fault}
+use Rattle.std.specs.Result.{result_ok}
 use Rattle.std.proofs.lemmas.List.{drop-drop}
 use Rattle.std.proofs.lemmas.Bool.{cond-true, cases_Bool, and_parts, and_from, le-leb, leb-true}
 
 -- one line on
-pub walk_turn : (cs : List ℕ) (p : Place) (ln : Line) (o : Option LineKind) → Fit ln ≡ fetched (drop p.byte cs) → o ≡ kind_of ln
+pub walk_turn : (cs : List ℕ) (p : Place) (ln : Line) (o : Option LineKind) → Ok (Some ln) ≡ fetched (drop p.byte cs) → o ≡ kind_of ln
     → walked p (lines (drop p.byte cs)) ≡ walk_by o (record { found = Some (record { number = p.line; line = ln }); place = passed p ln.len })
     (walked (passed p ln.len) (lines (drop (p.byte + ln.len + 1) cs))) (stay p)
 unfolding walked
@@ -27,12 +27,28 @@ walk_turn cs p ln o e k =
     ∙ ap (λ (o : Option LineKind). walk_by o (record { found = Some (record { number = p.line; line = ln }); place = passed p ln.len })
     (walked (passed p ln.len) (lines (drop (p.byte + ln.len + 1) cs))) (stay p)) (sym k)))
 
+-- what a line that was asked for by `ok` says
+pub fetched_ok : (cs : List ℕ) (r : Result (Option Line) Fault) (o : Option (Option Line)) (x y : Option Line) → r ≡ fetched cs → o ≡ result_ok r → o ≡ Some x → x ≡ y → Ok y ≡ fetched cs
+fetched_ok cs (Ok z) o x y e f g h = let same : y ≡ z = cc in ap Ok same ∙ e
+fetched_ok cs (Err d) o x y e f g h = let z : ◌≡◌ {A = ℕ} 0 1 = cc in absurd (omega arith)
+
 -- no line, or one that does not fit
-pub walk_stops : (cs : List ℕ) (p : Place) (r : Fetched) → r ≡ fetched cs → ((ln : Line) → r ≡ Fit ln → ⊥) → walked p (lines cs) ≡ stay p
+pub walk_ends : (cs : List ℕ) (p : Place) → Ok None ≡ fetched cs → walked p (lines cs) ≡ stay p
 unfolding walked
-walk_stops [] p r e n = refl
-walk_stops (c ∷ cs) p r e n = elim (cases_Bool (fits (first_line (c ∷ cs)))) [
-  | inl b ↦ absurd (n (line_of (first_line (c ∷ cs))) (e ∙ cond-true _ _ _ b))
+walk_ends [] p e = refl
+walk_ends (c ∷ cs) p e = elim (cases_Bool (fits (first_line (c ∷ cs)))) [
+  | inl b ↦ let s : ◌≡◌ {A = Result (Option Line) Fault} (Ok None) (Ok (Some (line_of (first_line (c ∷ cs))))) = e ∙ cond-true _ _ _ b in let z : ◌≡◌ {A = ℕ} 0 1 = cc in absurd (omega arith)
+  | inr b ↦ rw (lines_cons c cs, b) refl
+]
+
+pub walk_stops : (cs : List ℕ) (p : Place) (r : Result (Option Line) Fault) (o : Option (Option Line)) → r ≡ fetched cs → o ≡ result_ok r → o ≡ None → walked p (lines cs) ≡ stay p
+unfolding walked
+walk_stops [] p r o e f g = refl
+walk_stops (c ∷ cs) p r o e f g = elim (cases_Bool (fits (first_line (c ∷ cs)))) [
+  | inl b ↦
+      let s : r ≡ Ok (Some (line_of (first_line (c ∷ cs)))) = e ∙ cond-true _ _ _ b in
+      let t : None ≡ Some (Some (line_of (first_line (c ∷ cs)))) = sym g ∙ (f ∙ ap result_ok s) in
+      let z : ◌≡◌ {A = ℕ} 0 1 = cc in absurd (omega arith)
   | inr b ↦ rw (lines_cons c cs, b) refl
 ]
 

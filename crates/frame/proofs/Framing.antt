@@ -1,13 +1,13 @@
 -- The frame is right exactly where the pass over the lines accepts.
 use Rattle.std.proofs.Common.{◌≡◌, ℕ, ◌+◌, ◌≤◌, Bool, true, false, cond, eqb, ltb, ◌⊎◌, List, [], ◌∷◌, ◌++◌, map, length, take, drop, set, Some, None, Ok, Err, codes, Option, Result, sym, refl, ap, ◌∙◌, subst, inl, inr, add-zero, zero-add, arith}
 use Rattle.frame.proofs.DataWalk.{lines-past}
-use Rattle.frame.proofs.Pads.{set-padded}
-use Rattle.frame.proofs.Titled.{apart_push, apart-few, has_apart}
+use Rattle.frame.proofs.Titled.{New, apart_push, has_apart}
 use Rattle.frame.specs.DataLines.{data_from, data_by, data_at}
-use Rattle.frame.specs.Frames.{all_taken, by_kind, by_stage, continued, counted, ended, end_by_kind, end_by_stage, ended_blocks, first_place, footer, frame, framed, frame_of, has_title, inside, is_header, no_block, opening, outside, begun, stepped, unread}
+use Rattle.frame.specs.Blocks.{frame_as}
+use Rattle.frame.specs.Frames.{all_taken, by_kind, continued, counted, ended, end_by_kind, end_by_stage, ending, first_place, footer, frame, framed, has_title, inside, is_header, opening, outside, stepped, unread}
 use Rattle.frame.specs.Headings.{begins, caption_of, heading_of, is_text}
-use Rattle.frame.specs.Lines.{fits, is_nil, kind_by, kind_of, line_of, lines, padded, passed}
-use Rattle.frame.specs.Rules.{All, Apart, Good, OfKind, Part, Right, remark, section, block_at, blocks_of, data_in, data_of, data_or, frame_as, passed_all, words, written}
+use Rattle.frame.specs.Lines.{fits, is_nil, kind_by, kind_of, line_of, lines, passed}
+use Rattle.frame.specs.Rules.{All, Apart, Good, OfKind, Part, Right, remark, section, block_at, blocks_of, data_in, data_of, data_or, passed_all, words, written}
 use Rattle.frame.specs.declared.data.DataLine.{DataLine}
 use Rattle.frame.specs.declared.heading.Caption.{Caption}
 use Rattle.frame.specs.declared.heading.Heading.{Heading}
@@ -49,28 +49,16 @@ went_on : (r : Result Progress Refusal) (k : Progress → Result Frame Refusal) 
 went_on (Ok h) k g e = (h, refl, e)
 went_on (Err x) k g e = absurd (no_result e)
 
--- ---- a progress that holds some ended blocks
+-- ---- a progress
 
-record Holds (s : Stage) (f : Progress) (bs : List Block) : Type 0 where
-  stage : f.stage ≡ s
-  blocks : f.blocks ≡ padded no_block 26 bs
-  count : f.count ≡ length bs
-  apart : Apart bs
-
-holds-ended : (s : Stage) (f : Progress) (bs : List Block) → Holds s f bs → ended_blocks f ≡ bs
-holds-ended s f bs k = (λ i. take (k.count i) (k.blocks i)) ∙ take_at bs _ (length bs) refl
+abbrev on : Stage → List Block → Progress
+on s bs = record { stage = s; ended = bs }
 
 -- one line of a frame that is accepted
 frame_line : (p : Place) (f : Progress) (l : List ℕ) (ls : List (List ℕ)) (g : Frame) → frame p f (l ∷ ls) ≡ Ok g
     → (fits l ≡ true) × (cond (is_nil ls) (ended p f (line_of l)) (continued (stepped p f (line_of l)) (λ h. frame (passed p (length l)) h ls)) ≡ Ok g)
 unfolding frame
 frame_line p f l ls g e = tested _ _ _ g e
-
-stepped-at : (p : Place) (f : Progress) (ln : Line) (k : LineKind) (s : Stage) → kind_of ln ≡ Some k → f.stage ≡ s → stepped p f ln ≡ by_stage p f ln k s
-stepped-at p f ln k s e t = ap (by_kind p f ln) e ∙ ap (by_stage p f ln k) t
-
-ended_at : (p : Place) (f : Progress) (ln : Line) (k : LineKind) (s : Stage) → kind_of ln ≡ Some k → f.stage ≡ s → ended p f ln ≡ end_by_stage p f ln s
-ended_at p f ln k s e t = ap (end_by_kind p f ln) e ∙ ap (end_by_stage p f ln) t
 
 -- ---- what an accepted rest of a file is made of
 
@@ -109,29 +97,23 @@ record RestInside (p : Place) (title : List ℕ) (b : Block) (bs : List Block) (
   rest : Rest (passed_all p (inner ++ end ∷ [])) (bs ++ grown b p inner ∷ []) after g
 
 -- by the stage
-abbrev Claim : Stage → Place → Progress → List Block → List (List ℕ) → Frame → Type 0
-Claim Start p f bs ls g = Unit {0}
-Claim Outside p f bs ls g = Rest p bs ls g
-Claim Inside p f bs ls g = RestInside p f.heading.text f.current bs ls g
-
--- the block that is open is new
-abbrev New : Stage → Progress → List Block → Type 0
-New Start f bs = Unit {0}
-New Outside f bs = Unit {0}
-New Inside f bs = has_title f.current.caption.title bs ≡ false
+abbrev Claim : Stage → Place → List Block → List (List ℕ) → Frame → Type 0
+Claim Start p bs ls g = Unit {0}
+Claim Outside p bs ls g = Rest p bs ls g
+Claim (Inside h b) p bs ls g = RestInside p h.text b bs ls g
 
 -- ---- an accepted rest has such parts
 
 -- the footer
-last_rest : (p : Place) (f : Progress) (bs : List Block) (l : List ℕ) (g : Frame) (s : Stage) (k : LineKind) → Holds s f bs → fits l ≡ true
-    → end_by_stage p f (line_of l) s ≡ Ok g → Claim s p f bs (l ∷ []) g
-last_rest p f bs l g Start k h b e = tt
-last_rest p f bs l g Inside k h b e = absurd (no_result e)
-last_rest p f bs l g Outside k h b e =
+last_rest : (p : Place) (bs : List Block) (l : List ℕ) (g : Frame) (s : Stage) → Apart bs → fits l ≡ true
+    → end_by_stage p bs (line_of l) s ≡ Ok g → Claim s p bs (l ∷ []) g
+last_rest p bs l g Start a b e = tt
+last_rest p bs l g (Inside h c) a b e = absurd (no_result e)
+last_rest p bs l g Outside a b e =
     let t = tested (is_text footer (line_of l).columns) _ _ g e in
-    let u = tested (all_taken (ended_blocks f)) _ _ g t.1 in
+    let u = tested (all_taken bs) _ _ g t.1 in
     let none : bs ≡ bs ++ [] = sym (append-nil bs) in
-    let same : g ≡ frame_of p f = let x = u.1 in cc in
+    let same : g ≡ frame_as bs p.line = let x = u.1 in cc in
     record {
       parts = [];
       last = l;
@@ -139,19 +121,19 @@ last_rest p f bs l g Outside k h b e =
       fit = (b, tt);
       good = tt;
       ends = t.0;
-      apart = subst Apart none h.apart;
-      taken = ap all_taken (sym none ∙ sym (holds-ended Outside f bs h)) ∙ u.0;
-      frame = same ∙ ((λ i. record { blocks = h.blocks i; count = h.count i; lines = p.line }) ∙ ap (λ (xs : List Block). frame_as xs p.line) none);
+      apart = subst Apart none a;
+      taken = ap all_taken (sym none) ∙ u.0;
+      frame = same ∙ ap (λ (xs : List Block). frame_as xs p.line) none;
     }
 
-last_claim : (p : Place) (f : Progress) (bs : List Block) (l : List ℕ) (g : Frame) (s : Stage) (o : Option LineKind) → kind_of (line_of l) ≡ o → Holds s f bs → fits l ≡ true
-    → ended p f (line_of l) ≡ Ok g → Claim s p f bs (l ∷ []) g
-last_claim p f bs l g s None q h b e = absurd (no_result (sym (ap (end_by_kind p f (line_of l)) q) ∙ e))
-last_claim p f bs l g s (Some k) q h b e = last_rest p f bs l g s k h b (sym (ended_at p f (line_of l) k s q h.stage) ∙ e)
+last_claim : (p : Place) (bs : List Block) (l : List ℕ) (g : Frame) (s : Stage) (o : Option LineKind) → kind_of (line_of l) ≡ o → Apart bs → fits l ≡ true
+    → ended p (on s bs) (line_of l) ≡ Ok g → Claim s p bs (l ∷ []) g
+last_claim p bs l g s None q a b e = absurd (no_result (sym (ap (end_by_kind p (on s bs) (line_of l)) q) ∙ e))
+last_claim p bs l g s (Some k) q a b e = last_rest p bs l g s a b (sym (ap (end_by_kind p (on s bs) (line_of l)) q) ∙ e)
 
 -- what is claimed of the lines after the first
 abbrev Later : Place → List (List ℕ) → Frame → Type 0
-Later p ls g = (f : Progress) (bs : List Block) (s : Stage) → Holds s f bs → New s f bs → frame p f ls ≡ Ok g → Claim s p f bs ls g
+Later p ls g = (s : Stage) (bs : List Block) → Apart bs → New s bs → frame p (on s bs) ls ≡ Ok g → Claim s p bs ls g
 
 -- a comment outside
 rest-remark : (p : Place) (bs : List Block) (l : List ℕ) (ls : List (List ℕ)) (g : Frame) → OfKind Comment l → fits l ≡ true → Rest (passed p (length l)) bs ls g → Rest p bs (l ∷ ls) g
@@ -236,103 +218,73 @@ inside-end p t b bs l ls g k f w r = record {
 }
 
 -- a block that ends with no further lines inside
-ended-block : (b : Block) (p : Place) → record { caption = b.caption; start = b.start; body = b.body; data_lines = b.data_lines; end = p.line } ≡ grown b p []
+ended-block : (b : Block) (p : Place) → ending p b ≡ grown b p []
 ended-block b p = λ i. record { caption = b.caption; start = b.start; body = b.body; data_lines = sym (add-zero b.data_lines) i; end = p.line }
 
--- the progress after a block has ended
-holds-closed : (p : Place) (f : Progress) (bs : List Block) → Holds Inside f bs → has_title f.current.caption.title bs ≡ false
-    → Holds Outside (record {
-      stage = Outside;
-      heading = f.heading;
-      current = f.current;
-      blocks = set f.blocks f.count (record { caption = f.current.caption; start = f.current.start; body = f.current.body; data_lines = f.current.data_lines; end = p.line });
-      count = f.count + 1;
-    }) (bs ++ grown f.current p [] ∷ [])
-holds-closed p f bs h n =
-    let few = apart-few (f.current ∷ bs) (n, h.apart) in
-    let e = ended-block f.current p in
-    record {
-      stage = refl;
-      blocks = (λ i. set (h.blocks i) (h.count i) (e i)) ∙ set-padded no_block 26 bs _ (omega arith);
-      count = ap (λ (m : ℕ). m + 1) h.count ∙ sym (length_push bs _);
-      apart = apart_push bs _ h.apart n;
-    }
-
-more_outside : (p : Place) (f : Progress) (bs : List Block) (l : List ℕ) (ls : List (List ℕ)) (g : Frame) (h : Progress) (k : LineKind)
-    → kind_of (line_of l) ≡ Some k → Holds Outside f bs → fits l ≡ true → outside p f (line_of l) k ≡ Ok h
-    → Later (passed p (length l)) ls g → frame (passed p (length l)) h ls ≡ Ok g → Rest p bs (l ∷ ls) g
-more_outside p f bs l ls g h Bound q o b e next fr = absurd (no_result e)
-more_outside p f bs l ls g h End q o b e next fr = absurd (no_result e)
-more_outside p f bs l ls g h Data q o b e next fr = absurd (no_result e)
-more_outside p f bs l ls g h Comment q o b e next fr =
-    let same : f ≡ h = cc in
-    rest-remark p bs l ls g q b (next f bs Outside o tt (ap (λ (x : Progress). frame (passed p (length l)) x ls) same ∙ fr))
-more_outside p f bs l ls g h Title q o b e next fr = go (caption_of (words l)) refl e
+more_outside : (p : Place) (bs : List Block) (l : List ℕ) (ls : List (List ℕ)) (g : Frame) (f : Progress) (k : LineKind)
+    → kind_of (line_of l) ≡ Some k → Apart bs → fits l ≡ true → outside p bs (line_of l) k ≡ Ok f
+    → Later (passed p (length l)) ls g → frame (passed p (length l)) f ls ≡ Ok g → Rest p bs (l ∷ ls) g
+more_outside p bs l ls g f Bound q a b e next fr = absurd (no_result e)
+more_outside p bs l ls g f End q a b e next fr = absurd (no_result e)
+more_outside p bs l ls g f Data q a b e next fr = absurd (no_result e)
+more_outside p bs l ls g f Comment q a b e next fr =
+    let same : on Outside bs ≡ f = cc in
+    rest-remark p bs l ls g q b (next Outside bs a tt (ap (λ (x : Progress). frame (passed p (length l)) x ls) same ∙ fr))
+more_outside p bs l ls g f Title q a b e next fr = go (caption_of (words l)) refl e
   where
-    go : (c : Option Caption) → caption_of (words l) ≡ c → opening p (passed p (length l)) f (heading_of (line_of l)) c ≡ Ok h → Rest p bs (l ∷ ls) g
+    go : (c : Option Caption) → caption_of (words l) ≡ c → opening p (passed p (length l)) bs (heading_of (line_of l)) c ≡ Ok f → Rest p bs (l ∷ ls) g
     go None w e = absurd (no_result e)
     go (Some c) w e =
-        let t = denied (has_title c.title (ended_blocks f)) _ _ h e in
-        let i : Progress = record { stage = Inside; heading = heading_of (line_of l); current = record { caption = c; start = p; body = passed p (length l); data_lines = 0; end = 0 }; blocks = f.blocks; count = f.count } in
-        let same : i ≡ h = let x = t.1 in cc in
-        rest-section p c bs l ls g q w b
-        (next i bs Inside (record { stage = refl; blocks = o.blocks; count = o.count; apart = o.apart })
-        (ap (has_title c.title) (sym (holds-ended Outside f bs o)) ∙ t.0)
-        (ap (λ (x : Progress). frame (passed p (length l)) x ls) same ∙ fr))
+        let t = denied (has_title c.title bs) _ _ f e in
+        let s : Stage = Inside (heading_of (line_of l)) (record { caption = c; start = p; body = passed p (length l); data_lines = 0; end = 0 }) in
+        let same : on s bs ≡ f = let x = t.1 in cc in
+        rest-section p c bs l ls g q w b (next s bs a t.0 (ap (λ (x : Progress). frame (passed p (length l)) x ls) same ∙ fr))
 
-more_inside : (p : Place) (f : Progress) (bs : List Block) (l : List ℕ) (ls : List (List ℕ)) (g : Frame) (h : Progress) (k : LineKind)
-    → kind_of (line_of l) ≡ Some k → Holds Inside f bs → New Inside f bs → fits l ≡ true → inside p f (line_of l) k ≡ Ok h
-    → Later (passed p (length l)) ls g → frame (passed p (length l)) h ls ≡ Ok g → RestInside p f.heading.text f.current bs (l ∷ ls) g
-more_inside p f bs l ls g h Bound q o n b e next fr = absurd (no_result e)
-more_inside p f bs l ls g h Title q o n b e next fr = absurd (no_result e)
-more_inside p f bs l ls g h Comment q o n b e next fr =
-    let same : f ≡ h = cc in
-    inside_more p _ f.current f.current bs l ls g (inr q) b (λ inner. over inner)
-    (next f bs Inside o n (ap (λ (x : Progress). frame (passed p (length l)) x ls) same ∙ fr))
+more_inside : (p : Place) (h : Heading) (b : Block) (bs : List Block) (l : List ℕ) (ls : List (List ℕ)) (g : Frame) (f : Progress) (k : LineKind)
+    → kind_of (line_of l) ≡ Some k → Apart bs → has_title b.caption.title bs ≡ false → fits l ≡ true → inside p bs (line_of l) h b k ≡ Ok f
+    → Later (passed p (length l)) ls g → frame (passed p (length l)) f ls ≡ Ok g → RestInside p h.text b bs (l ∷ ls) g
+more_inside p h b bs l ls g f Bound q a n t e next fr = absurd (no_result e)
+more_inside p h b bs l ls g f Title q a n t e next fr = absurd (no_result e)
+more_inside p h b bs l ls g f Comment q a n t e next fr =
+    let same : on (Inside h b) bs ≡ f = cc in
+    inside_more p _ b b bs l ls g (inr q) t (λ inner. over inner) (next (Inside h b) bs a n (ap (λ (x : Progress). frame (passed p (length l)) x ls) same ∙ fr))
   where
-    over : (inner : List (List ℕ)) → grown f.current (passed p (length l)) inner ≡ grown f.current p (l ∷ inner)
-    over inner = λ i. record { caption = f.current.caption; start = f.current.start; body = f.current.body; data_lines = f.current.data_lines + length (data_or (sym q i) (record { number = p.line; line = line_of l }) (data_in (p.line + 1) inner)); end = (passed_all (passed p (length l)) inner).line }
-more_inside p f bs l ls g h Data q o n b e next fr =
-    let same : counted f ≡ h = cc in
-    inside_more p _ f.current (counted f).current bs l ls g (inl q) b (λ inner. over inner)
-    (next (counted f) bs Inside (record { stage = o.stage; blocks = o.blocks; count = o.count; apart = o.apart }) n (ap (λ (x : Progress). frame (passed p (length l)) x ls) same ∙ fr))
+    over : (inner : List (List ℕ)) → grown b (passed p (length l)) inner ≡ grown b p (l ∷ inner)
+    over inner = λ i. record { caption = b.caption; start = b.start; body = b.body; data_lines = b.data_lines + length (data_or (sym q i) (record { number = p.line; line = line_of l }) (data_in (p.line + 1) inner)); end = (passed_all (passed p (length l)) inner).line }
+more_inside p h b bs l ls g f Data q a n t e next fr =
+    let same : on (Inside h (counted b)) bs ≡ f = cc in
+    inside_more p _ b (counted b) bs l ls g (inl q) t (λ inner. over inner)
+    (next (Inside h (counted b)) bs a n (ap (λ (x : Progress). frame (passed p (length l)) x ls) same ∙ fr))
   where
-    over : (inner : List (List ℕ)) → grown (counted f).current (passed p (length l)) inner ≡ grown f.current p (l ∷ inner)
+    over : (inner : List (List ℕ)) → grown (counted b) (passed p (length l)) inner ≡ grown b p (l ∷ inner)
     over inner =
-        let more : f.current.data_lines + 1 + length (data_in (p.line + 1) inner) ≡ f.current.data_lines + length (data_or (kind_of (line_of l)) (record { number = p.line; line = line_of l }) (data_in (p.line + 1) inner)) = rw q (omega arith) in
-        λ i. record { caption = f.current.caption; start = f.current.start; body = f.current.body; data_lines = more i; end = (passed_all (passed p (length l)) inner).line }
-more_inside p f bs l ls g h End q o n b e next fr =
-    let t = tested (bytes_eq (words l) f.heading.text) _ _ h e in
-    let w : words l ≡ f.heading.text = (bytes_eq-Decides (words l) f.heading.text).0 t.0 in
-    let same = t.1 in
-    let i : Progress = record {
-      stage = Outside;
-      heading = f.heading;
-      current = f.current;
-      blocks = set f.blocks f.count (record { caption = f.current.caption; start = f.current.start; body = f.current.body; data_lines = f.current.data_lines; end = p.line });
-      count = f.count + 1;
-    } in
-    let ih : i ≡ h = cc in
-    inside-end p _ f.current bs l ls g q b w (next i (bs ++ grown f.current p [] ∷ []) Outside (holds-closed p f bs o n) tt (ap (λ (x : Progress). frame (passed p (length l)) x ls) ih ∙ fr))
+        let more : b.data_lines + 1 + length (data_in (p.line + 1) inner) ≡ b.data_lines + length (data_or (kind_of (line_of l)) (record { number = p.line; line = line_of l }) (data_in (p.line + 1) inner)) = rw q (omega arith) in
+        λ i. record { caption = b.caption; start = b.start; body = b.body; data_lines = more i; end = (passed_all (passed p (length l)) inner).line }
+more_inside p h b bs l ls g f End q a n t e next fr =
+    let x = tested (bytes_eq (words l) h.text) _ _ f e in
+    let w : words l ≡ h.text = (bytes_eq-Decides (words l) h.text).0 x.0 in
+    let same : on Outside (bs ++ ending p b ∷ []) ≡ f = let y = x.1 in cc in
+    inside-end p _ b bs l ls g q t w
+    (next Outside (bs ++ grown b p [] ∷ []) (apart_push bs (grown b p []) a n) tt
+    (ap (λ (c : Block). frame (passed p (length l)) (on Outside (bs ++ c ∷ [])) ls) (sym (ended-block b p)) ∙ (ap (λ (y : Progress). frame (passed p (length l)) y ls) same ∙ fr)))
 
-more_claim : (p : Place) (f : Progress) (bs : List Block) (l : List ℕ) (ls : List (List ℕ)) (g : Frame) (h : Progress) (s : Stage) (o : Option LineKind)
-    → kind_of (line_of l) ≡ o → Holds s f bs → New s f bs → fits l ≡ true → stepped p f (line_of l) ≡ Ok h
-    → Later (passed p (length l)) ls g → frame (passed p (length l)) h ls ≡ Ok g → Claim s p f bs (l ∷ ls) g
-more_claim p f bs l ls g h s None q k n b e next fr = absurd (no_result (sym (ap (by_kind p f (line_of l)) q) ∙ e))
-more_claim p f bs l ls g h Start (Some kind) q k n b e next fr = tt
-more_claim p f bs l ls g h Outside (Some kind) q k n b e next fr =
-    more_outside p f bs l ls g h kind q k b (sym (stepped-at p f (line_of l) kind Outside q k.stage) ∙ e) next fr
-more_claim p f bs l ls g h Inside (Some kind) q k n b e next fr =
-    more_inside p f bs l ls g h kind q k n b (sym (stepped-at p f (line_of l) kind Inside q k.stage) ∙ e) next fr
+more_claim : (p : Place) (bs : List Block) (l : List ℕ) (ls : List (List ℕ)) (g : Frame) (f : Progress) (s : Stage) (o : Option LineKind)
+    → kind_of (line_of l) ≡ o → Apart bs → New s bs → fits l ≡ true → stepped p (on s bs) (line_of l) ≡ Ok f
+    → Later (passed p (length l)) ls g → frame (passed p (length l)) f ls ≡ Ok g → Claim s p bs (l ∷ ls) g
+more_claim p bs l ls g f s None q a n b e next fr = absurd (no_result (sym (ap (by_kind p (on s bs) (line_of l)) q) ∙ e))
+more_claim p bs l ls g f Start (Some kind) q a n b e next fr = tt
+more_claim p bs l ls g f Outside (Some kind) q a n b e next fr = more_outside p bs l ls g f kind q a b (sym (ap (by_kind p (on Outside bs) (line_of l)) q) ∙ e) next fr
+more_claim p bs l ls g f (Inside h c) (Some kind) q a n b e next fr =
+    more_inside p h c bs l ls g f kind q a n b (sym (ap (by_kind p (on (Inside h c) bs) (line_of l)) q) ∙ e) next fr
 
 sound : (ls : List (List ℕ)) (p : Place) (g : Frame) → Later p ls g
 unfolding frame
-sound [] p g f bs s k n e = absurd (no_result e)
-sound (l ∷ []) p g f bs s k n e = let t = frame_line p f l [] g e in last_claim p f bs l g s (kind_of (line_of l)) refl k t.0 t.1
-sound (l ∷ (m ∷ ms)) p g f bs s k n e =
-    let t = frame_line p f l (m ∷ ms) g e in
-    let u = went_on (stepped p f (line_of l)) (λ h. frame (passed p (length l)) h (m ∷ ms)) g t.1 in
-    more_claim p f bs l (m ∷ ms) g u.0 s (kind_of (line_of l)) refl k n t.0 u.1 (sound (m ∷ ms) (passed p (length l)) g) u.2
+sound [] p g s bs a n e = absurd (no_result e)
+sound (l ∷ []) p g s bs a n e = let t = frame_line p (on s bs) l [] g e in last_claim p bs l g s (kind_of (line_of l)) refl a t.0 t.1
+sound (l ∷ (m ∷ ms)) p g s bs a n e =
+    let t = frame_line p (on s bs) l (m ∷ ms) g e in
+    let u = went_on (stepped p (on s bs) (line_of l)) (λ h. frame (passed p (length l)) h (m ∷ ms)) g t.1 in
+    more_claim p bs l (m ∷ ms) g u.0 s (kind_of (line_of l)) refl a n t.0 u.1 (sound (m ∷ ms) (passed p (length l)) g) u.2
 
 -- ---- such parts are accepted
 
@@ -347,96 +299,56 @@ unfolding frame
 frame_on p f h l ls b n e =
     cond-true _ _ _ b ∙ (cond-false _ _ _ n ∙ ap (λ (r : Result Progress Refusal). continued r (λ g. frame (passed p (length l)) g ls)) e)
 
-abbrev more_data : Block → ℕ → Block
-more_data b n = record { caption = b.caption; start = b.start; body = b.body; data_lines = b.data_lines + n; end = b.end }
-
--- the lines inside a block
-record Ran (p : Place) (f : Progress) (bs : List Block) (inner rest : List (List ℕ)) : Type 0 where
-  to : Progress
-  holds : Holds Inside to bs
-  heading : to.heading ≡ f.heading
-  current : to.current ≡ more_data f.current (length (data_in p.line inner))
-  same : frame p f (inner ++ rest) ≡ frame (passed_all p inner) to rest
+abbrev with_data : Block → ℕ → Block
+with_data b n = record b { data_lines = n }
 
 abbrev Inner : List ℕ → Type 0
 Inner l = OfKind Data l ⊎ OfKind Comment l
 
-ran_more : (p : Place) (f h : Progress) (bs : List Block) (l : List ℕ) (inner rest : List (List ℕ)) → fits l ≡ true → is_nil rest ≡ false
-    → stepped p f (line_of l) ≡ Ok h → h.heading ≡ f.heading → ((n : ℕ) → n ≡ length (data_in (p.line + 1) inner) → more_data h.current n ≡ more_data f.current (length (data_in p.line (l ∷ inner))))
-    → Ran (passed p (length l)) h bs inner rest → Ran p f bs (l ∷ inner) rest
-ran_more p f h bs l inner rest b n e g c r = record {
-  to = r.to;
-  holds = r.holds;
-  heading = r.heading ∙ g;
-  current = r.current ∙ c _ refl;
-  same = frame_on p f h l (inner ++ rest) b (nil_append inner rest n) e ∙ r.same;
-}
-
-run : (inner : List (List ℕ)) (p : Place) (f : Progress) (bs : List Block) (rest : List (List ℕ)) → is_nil rest ≡ false → Holds Inside f bs
-    → All (λ l. fits l ≡ true) inner → All Inner inner → Ran p f bs inner rest
-run [] p f bs rest n k b a = record {
-  to = f;
-  holds = k;
-  heading = refl;
-  current = λ i. record { caption = f.current.caption; start = f.current.start; body = f.current.body; data_lines = sym (add-zero f.current.data_lines) i; end = f.current.end };
-  same = refl;
-}
-run (l ∷ inner) p f bs rest n k b a = elim a.0 [
-  | inl q ↦
-      ran_more p f (counted f) bs l inner rest b.0 n (stepped-at p f (line_of l) Data Inside q k.stage) refl
-      (λ m e. let more : f.current.data_lines + 1 + m ≡ f.current.data_lines + length (data_in p.line (l ∷ inner)) = rw (q, e) (omega arith) in
-      λ i. record { caption = f.current.caption; start = f.current.start; body = f.current.body; data_lines = more i; end = f.current.end })
-      (run inner (passed p (length l)) (counted f) bs rest n (record { stage = k.stage; blocks = k.blocks; count = k.count; apart = k.apart }) b.1 a.1)
-  | inr q ↦
-      ran_more p f f bs l inner rest b.0 n (stepped-at p f (line_of l) Comment Inside q k.stage) refl
-      (λ m e. let more : f.current.data_lines + m ≡ f.current.data_lines + length (data_in p.line (l ∷ inner)) = rw (q, e) refl in
-      λ i. record { caption = f.current.caption; start = f.current.start; body = f.current.body; data_lines = more i; end = f.current.end })
-      (run inner (passed p (length l)) f bs rest n k b.1 a.1)
-]
+-- the lines inside a block
+run : (inner : List (List ℕ)) (p : Place) (h : Heading) (b : Block) (bs : List Block) (rest : List (List ℕ)) → is_nil rest ≡ false
+    → All (λ l. fits l ≡ true) inner → All Inner inner
+    → frame p (on (Inside h b) bs) (inner ++ rest) ≡ frame (passed_all p inner) (on (Inside h (with_data b (b.data_lines + length (data_in p.line inner)))) bs) rest
+run [] p h b bs rest n f a = ap (λ (m : ℕ). frame p (on (Inside h (with_data b m)) bs) rest) (sym (add-zero b.data_lines))
+run (l ∷ inner) p h b bs rest n f a =
+    let q = passed p (length l) in
+    let end = λ (m : ℕ). frame (passed_all q inner) (on (Inside h (with_data b m)) bs) rest in
+    elim a.0 [
+      | inl k ↦
+          let more : b.data_lines + 1 + length (data_in (p.line + 1) inner) ≡ b.data_lines + length (data_in p.line (l ∷ inner)) = rw k (omega arith) in
+          frame_on p _ (on (Inside h (counted b)) bs) l (inner ++ rest) f.0 (nil_append inner rest n) (ap (by_kind p (on (Inside h b) bs) (line_of l)) k)
+          ∙ (run inner q h (counted b) bs rest n f.1 a.1 ∙ ap end more)
+      | inr k ↦
+          let more : b.data_lines + length (data_in (p.line + 1) inner) ≡ b.data_lines + length (data_in p.line (l ∷ inner)) = rw k refl in
+          frame_on p _ (on (Inside h b) bs) l (inner ++ rest) f.0 (nil_append inner rest n) (ap (by_kind p (on (Inside h b) bs) (line_of l)) k)
+          ∙ (run inner q h b bs rest n f.1 a.1 ∙ ap end more)
+    ]
 
 all_split : {X : Type 0} (P : X → Type 0) (xs ys : List X) → All P (xs ++ ys) → All P xs × All P ys
 all_split P [] ys a = (tt, a)
 all_split P (x ∷ xs) ys a = let r = all_split P xs ys a.1 in ((a.0, r.0), r.1)
 
 -- a whole block
-record Crossed (p : Place) (f : Progress) (bs : List Block) (c : Caption) (t : List ℕ) (inner : List (List ℕ)) (e : List ℕ) (rest : List (List ℕ)) : Type 0 where
-  to : Progress
-  holds : Holds Outside to (bs ++ block_at p c t inner ∷ [])
-  same : frame p f (t ∷ ((inner ++ e ∷ []) ++ rest)) ≡ frame (passed_all p (t ∷ (inner ++ e ∷ []))) to rest
-
-cross : (p : Place) (f : Progress) (bs : List Block) (c : Caption) (t : List ℕ) (inner : List (List ℕ)) (e : List ℕ) (rest : List (List ℕ)) → is_nil rest ≡ false
-    → Holds Outside f bs → has_title c.title bs ≡ false → All (λ l. fits l ≡ true) (t ∷ (inner ++ e ∷ [])) → Good (section c t inner e)
-    → Crossed p f bs c t inner e rest
-cross p f bs c t inner e rest n k u b g =
+cross : (p : Place) (bs : List Block) (c : Caption) (t : List ℕ) (inner : List (List ℕ)) (e : List ℕ) (rest : List (List ℕ)) → is_nil rest ≡ false
+    → has_title c.title bs ≡ false → All (λ l. fits l ≡ true) (t ∷ (inner ++ e ∷ [])) → Good (section c t inner e)
+    → frame p (on Outside bs) (t ∷ ((inner ++ e ∷ []) ++ rest)) ≡ frame (passed_all p (t ∷ (inner ++ e ∷ []))) (on Outside (bs ++ block_at p c t inner ∷ [])) rest
+cross p bs c t inner e rest n u f g =
     let q = passed p (length t) in
-    let i : Progress = record { stage = Inside; heading = heading_of (line_of t); current = record { caption = c; start = p; body = q; data_lines = 0; end = 0 }; blocks = f.blocks; count = f.count } in
-    let fit = all_split (λ l. fits l ≡ true) inner (e ∷ []) b.1 in
-    let opens : stepped p f (line_of t) ≡ Ok i
-    = stepped-at p f (line_of t) Title Outside g.0 k.stage ∙ (ap (opening p q f (heading_of (line_of t))) g.1
-    ∙ cond-false _ _ _ (ap (has_title c.title) (holds-ended Outside f bs k) ∙ u)) in
-    let r = run inner q i bs (e ∷ rest) refl (record { stage = refl; blocks = k.blocks; count = k.count; apart = k.apart }) fit.0 g.2 in
-    let h = r.to in
-    let title : h.current.caption.title ≡ c.title = ap (λ (x : Block). x.caption.title) r.current in
-    let new : has_title h.current.caption.title bs ≡ false = ap (λ (x : BlockTitle). has_title x bs) title ∙ u in
     let s = passed_all q inner in
-    let o : Progress = record {
-      stage = Outside;
-      heading = h.heading;
-      current = h.current;
-      blocks = set h.blocks h.count (record { caption = h.current.caption; start = h.current.start; body = h.current.body; data_lines = h.current.data_lines; end = s.line });
-      count = h.count + 1;
-    } in
-    let same : bytes_eq (words e) h.heading.text ≡ true = (bytes_eq-Decides (words e) h.heading.text).1 (g.4 ∙ sym (ap (λ (x : Heading). x.text) r.heading)) in
-    let closes : stepped s h (line_of e) ≡ Ok o = stepped-at s h (line_of e) End Inside g.3 r.holds.stage ∙ cond-true _ _ _ same in
-    let block : grown h.current s [] ≡ block_at p c t inner = sym (ended-block h.current s) ∙ (λ j. let x : Block = r.current j in record { caption = x.caption; start = x.start; body = x.body; data_lines = x.data_lines; end = s.line })
-    ∙ (λ j. record { caption = c; start = p; body = q; data_lines = zero-add (length (data_in (p.line + 1) inner)) j; end = s.line }) in
-    record {
-      to = o;
-      holds = subst (λ (x : Block). Holds Outside o (bs ++ x ∷ [])) block (holds-closed s h bs r.holds new);
-      same = frame_on p f i t ((inner ++ e ∷ []) ++ rest) b.0 (nil_append (inner ++ e ∷ []) rest n) opens
-          ∙ (ap (frame q i) (append_assoc inner (e ∷ []) rest) ∙ (r.same ∙ (frame_on s h o e rest fit.1.0 n closes
-          ∙ ap (λ (x : Place). frame x o rest) (passed_all_lem q inner (e ∷ [])))));
-    }
+    let h = heading_of (line_of t) in
+    let b : Block = record { caption = c; start = p; body = q; data_lines = 0; end = 0 } in
+    let d : Block = with_data b (0 + length (data_in (p.line + 1) inner)) in
+    let fit = all_split (λ l. fits l ≡ true) inner (e ∷ []) f.1 in
+    let opens : stepped p (on Outside bs) (line_of t) ≡ Ok (on (Inside h b) bs)
+    = ap (by_kind p (on Outside bs) (line_of t)) g.0 ∙ (ap (opening p q bs h) g.1 ∙ cond-false _ _ _ u) in
+    let same : bytes_eq (words e) h.text ≡ true = (bytes_eq-Decides (words e) h.text).1 g.4 in
+    let closes : stepped s (on (Inside h d) bs) (line_of e) ≡ Ok (on Outside (bs ++ ending s d ∷ []))
+    = ap (by_kind s (on (Inside h d) bs) (line_of e)) g.3 ∙ cond-true _ _ _ same in
+    let block : ending s d ≡ block_at p c t inner = λ j. record { caption = c; start = p; body = q; data_lines = zero-add (length (data_in (p.line + 1) inner)) j; end = s.line } in
+    frame_on p _ (on (Inside h b) bs) t ((inner ++ e ∷ []) ++ rest) f.0 (nil_append (inner ++ e ∷ []) rest n) opens
+    ∙ (ap (frame q (on (Inside h b) bs)) (append_assoc inner (e ∷ []) rest) ∙ (run inner q h b bs (e ∷ rest) refl fit.0 g.2
+    ∙ (frame_on s _ (on Outside (bs ++ ending s d ∷ [])) e rest fit.1.0 n closes
+    ∙ (λ j. frame (passed_all_lem q inner (e ∷ []) j) (on Outside (bs ++ block j ∷ [])) rest))))
 
 -- a line that begins with '%'
 bound_kind : (l w : List ℕ) → begins (line_of l).columns (37 ∷ w) ≡ true → kind_of (line_of l) ≡ Some Bound
@@ -457,31 +369,30 @@ unfolding is_text
 footer_kind l e = bound_kind l (codes "ENDSNX") (and_parts _ _ e).0
 
 -- the footer is the last line
-complete_last : (p : Place) (f : Progress) (bs : List Block) (l : List ℕ) → Holds Outside f bs → fits l ≡ true → is_text footer (line_of l).columns ≡ true → all_taken bs ≡ true
-    → frame p f (l ∷ []) ≡ Ok (frame_as bs p.line)
+complete_last : (p : Place) (bs : List Block) (l : List ℕ) → fits l ≡ true → is_text footer (line_of l).columns ≡ true → all_taken bs ≡ true
+    → frame p (on Outside bs) (l ∷ []) ≡ Ok (frame_as bs p.line)
 unfolding frame
-complete_last p f bs l k b e t =
-    cond-true _ _ _ b ∙ (ended_at p f (line_of l) Bound Outside (footer_kind l e) k.stage
-    ∙ (cond-true _ _ _ e ∙ (cond-true _ _ _ (ap all_taken (holds-ended Outside f bs k) ∙ t) ∙ (λ i. Ok (record { blocks = k.blocks i; count = k.count i; lines = p.line })))))
+complete_last p bs l b e t =
+    cond-true _ _ _ b ∙ (ap (end_by_kind p (on Outside bs) (line_of l)) (footer_kind l e) ∙ (cond-true _ _ _ e ∙ cond-true _ _ _ t))
 
-complete : (parts : List Part) (p : Place) (f : Progress) (bs : List Block) (l : List ℕ) → Holds Outside f bs → All (λ x. fits x ≡ true) (flat_map written parts ++ l ∷ []) → All Good parts
+complete : (parts : List Part) (p : Place) (bs : List Block) (l : List ℕ) → All (λ x. fits x ≡ true) (flat_map written parts ++ l ∷ []) → All Good parts
     → is_text footer (line_of l).columns ≡ true → Apart (bs ++ blocks_of p parts) → all_taken (bs ++ blocks_of p parts) ≡ true
-    → frame p f (flat_map written parts ++ l ∷ []) ≡ Ok (frame_as (bs ++ blocks_of p parts) (passed_all p (flat_map written parts)).line)
-complete [] p f bs l k b g e a t =
+    → frame p (on Outside bs) (flat_map written parts ++ l ∷ []) ≡ Ok (frame_as (bs ++ blocks_of p parts) (passed_all p (flat_map written parts)).line)
+complete [] p bs l b g e a t =
     let none = append-nil bs in
-    complete_last p f bs l k b.0 e (ap all_taken (sym none) ∙ t) ∙ ap (λ (x : List Block). Ok (frame_as x p.line)) (sym none)
-complete (remark r ∷ parts) p f bs l k b g e a t =
-    frame_on p f f r (flat_map written parts ++ l ∷ []) b.0 (nil_append (flat_map written parts) (l ∷ []) refl) (stepped-at p f (line_of r) Comment Outside g.0 k.stage)
-    ∙ complete parts (passed p (length r)) f bs l k b.1 g.1 e a t
-complete (section c title inner end ∷ parts) p f bs l k b g e a t =
+    complete_last p bs l b.0 e (ap all_taken (sym none) ∙ t) ∙ ap (λ (x : List Block). Ok (frame_as x p.line)) (sym none)
+complete (remark r ∷ parts) p bs l b g e a t =
+    frame_on p _ (on Outside bs) r (flat_map written parts ++ l ∷ []) b.0 (nil_append (flat_map written parts) (l ∷ []) refl) (ap (by_kind p (on Outside bs) (line_of r)) g.0)
+    ∙ complete parts (passed p (length r)) bs l b.1 g.1 e a t
+complete (section c title inner end ∷ parts) p bs l b g e a t =
     let rest = flat_map written parts ++ l ∷ [] in
     let lay : flat_map written (section c title inner end ∷ parts) ++ l ∷ [] ≡ title ∷ ((inner ++ end ∷ []) ++ rest) = append_assoc (title ∷ (inner ++ end ∷ [])) (flat_map written parts) (l ∷ []) in
     let fit = all_split (λ x. fits x ≡ true) (title ∷ (inner ++ end ∷ [])) rest (subst (All (λ x. fits x ≡ true)) lay b) in
     let q = passed_all p (title ∷ (inner ++ end ∷ [])) in
-    let x = cross p f bs c title inner end rest (nil_append (flat_map written parts) (l ∷ []) refl) k (has_apart bs (block_at p c title inner) _ a) fit.0 g.0 in
+    let over = cross p bs c title inner end rest (nil_append (flat_map written parts) (l ∷ []) refl) (has_apart bs (block_at p c title inner) _ a) fit.0 g.0 in
     let move : bs ++ blocks_of p (section c title inner end ∷ parts) ≡ (bs ++ block_at p c title inner ∷ []) ++ blocks_of q parts = sym (append_assoc bs (block_at p c title inner ∷ []) (blocks_of q parts)) in
-    let done = complete parts q x.to (bs ++ block_at p c title inner ∷ []) l x.holds fit.1 g.1 e (subst Apart move a) (subst (λ (y : List Block). all_taken y ≡ true) move t) in
-    ap (frame p f) lay ∙ (x.same ∙ (done ∙ (λ i. Ok (frame_as (sym move i) (passed_all_lem p (title ∷ (inner ++ end ∷ [])) (flat_map written parts) i).line))))
+    let done = complete parts q (bs ++ block_at p c title inner ∷ []) l fit.1 g.1 e (subst Apart move a) (subst (λ (y : List Block). all_taken y ≡ true) move t) in
+    ap (frame p (on Outside bs)) lay ∙ (over ∙ (done ∙ (λ i. Ok (frame_as (sym move i) (passed_all_lem p (title ∷ (inner ++ end ∷ [])) (flat_map written parts) i).line))))
 
 -- ---- the data lines of each block
 
@@ -518,14 +429,6 @@ data_walks cs (section c title inner end ∷ parts) p l e b g =
 
 -- ---- the whole file
 
-start-holds : (f : Progress) → f ≡ begun unread → Holds Outside f []
-start-holds f e = record {
-  stage = ap (λ (x : Progress). x.stage) e;
-  blocks = ap (λ (x : Progress). x.blocks) e;
-  count = ap (λ (x : Progress). x.count) e;
-  apart = tt;
-}
-
 passed_line : (p : Place) (xs : List (List ℕ)) → (passed_all p xs).line ≡ p.line + length xs
 passed_line p [] = sym (add-zero _)
 passed_line p (x ∷ xs) = let i = passed_line (passed p (length x)) xs in omega arith
@@ -546,8 +449,7 @@ right_from cs (l ∷ (m ∷ ms)) f s q e =
     let t = frame_line first_place unread l (m ∷ ms) f e in
     let u = went_on (stepped first_place unread (line_of l)) (λ h. frame (passed first_place (length l)) h (m ∷ ms)) f t.1 in
     let w = opens (kind_of (line_of l)) u.0 u.1 in
-    let k = start-holds u.0 w.1 in
-    let r = sound (m ∷ ms) (passed first_place (length l)) f u.0 [] Outside k tt u.2 in
+    let r = sound (m ∷ ms) (passed first_place (length l)) f Outside [] tt tt (ap (λ (x : Progress). frame (passed first_place (length l)) x (m ∷ ms)) (sym w.1) ∙ u.2) in
     record {
       small = s;
       fit = subst (All (λ x. fits x ≡ true)) (sym q) (t.0, r.fit);
@@ -565,7 +467,7 @@ right_from cs (l ∷ (m ∷ ms)) f s q e =
       walks = data_walks cs r.parts (passed first_place (length l)) r.last (lines-past cs first_place l (m ∷ ms) q ∙ r.whole) (subst (All (λ x. fits x ≡ true)) r.whole r.fit) r.good;
     }
   where
-    opens : (o : Option LineKind) (h : Progress) → by_kind first_place unread (line_of l) o ≡ Ok h → (is_header (line_of l) ≡ true) × (h ≡ begun unread)
+    opens : (o : Option LineKind) (h : Progress) → by_kind first_place unread (line_of l) o ≡ Ok h → (is_header (line_of l) ≡ true) × (h ≡ on Outside [])
     opens None h x = absurd (no_result x)
     opens (Some k) h x = let y = tested (is_header (line_of l)) _ _ h x in (y.0, let z = y.1 in cc)
 
@@ -575,10 +477,10 @@ right_framed cs f r =
     let rest = flat_map written r.parts ++ r.last ∷ [] in
     let p = passed first_place (length r.first) in
     let fit = subst (All (λ x. fits x ≡ true)) r.whole r.fit in
-    let opens : stepped first_place unread (line_of r.first) ≡ Ok (begun unread) = stepped-at first_place unread (line_of r.first) Bound Start (header_kind r.first r.header) refl ∙ cond-true _ _ _ r.header in
-    let go = complete r.parts p (begun unread) [] r.last (start-holds (begun unread) refl) fit.1 r.good r.ends r.apart r.taken in
+    let opens : stepped first_place unread (line_of r.first) ≡ Ok (on Outside []) = ap (by_kind first_place unread (line_of r.first)) (header_kind r.first r.header) ∙ cond-true _ _ _ r.header in
+    let go = complete r.parts p [] r.last fit.1 r.good r.ends r.apart r.taken in
     cond-false _ _ _ (le-ltb 100000000 (length cs) r.small)
-    ∙ (ap (frame first_place unread) r.whole ∙ (frame_on first_place unread (begun unread) r.first rest fit.0 (nil_append (flat_map written r.parts) (r.last ∷ []) refl) opens
+    ∙ (ap (frame first_place unread) r.whole ∙ (frame_on first_place unread (on Outside []) r.first rest fit.0 (nil_append (flat_map written r.parts) (r.last ∷ []) refl) opens
     ∙ (go ∙ (ap (λ (n : ℕ). Ok (frame_as (blocks_of p r.parts) n)) (count-lines r.first r.last (flat_map written r.parts) ∙ sym (ap length r.whole)) ∙ ap Ok (sym r.frame)))))
 
 pub right_exactly : (cs : List ℕ) (f : Frame) → (framed cs ≡ Ok f → Right cs f) × (Right cs f → framed cs ≡ Ok f)

@@ -1,10 +1,11 @@
 -- No title twice: so the blocks never outnumber the titles.
-use Rattle.std.proofs.Common.{◌≡◌, ℕ, zero, suc, ◌+◌, ◌<◌, ◌≤◌, Bool, true, false, cond, ◌||◌, eqb, ◌≢◌, List, [], ◌∷◌, ◌++◌, length, get_or, drop, set, replicate, IfOk, Some, None, Ok, Option, Result, sym, refl, ◌∙◌, subst, arith, lit<}
-use Rattle.frame.specs.Frames.{has_title, ended_blocks, stepped, by_kind, by_stage, inside, outside, opening, closed, is_header, unread, Spacious, SpaciousAt}
+use Rattle.std.proofs.Common.{◌≡◌, ℕ, zero, suc, ◌+◌, ◌<◌, ◌≤◌, Bool, true, false, cond, ◌||◌, eqb, ◌≢◌, List, [], ◌∷◌, ◌++◌, length, get_or, drop, set, replicate, IfOk, Bor, Some, None, Ok, Option, Result, sym, refl, ap, ◌∙◌, subst, inl, inr, arith, rules, lit<}
+use Rattle.frame.specs.Frames.{has_title, block_of, stepped, by_kind, by_stage, ending, inside, outside, opening, is_header, unread, Spacious, SpaciousIn}
 use Rattle.frame.specs.Headings.{caption_of, heading_of}
 use Rattle.frame.specs.Lines.{kind_of, passed}
 use Rattle.frame.specs.Rules.{Apart}
-use Rattle.frame.specs.Titles.{place_of}
+use Rattle.frame.specs.Titles.{place_of, titles}
+use Rattle.frame.specs.contracts.title.TitlePartialEq.TheImpl.{ghosts}
 use Rattle.frame.specs.declared.heading.Caption.{Caption}
 use Rattle.frame.specs.declared.heading.Heading.{Heading}
 use Rattle.frame.specs.declared.line.Line.{Line}
@@ -19,20 +20,63 @@ use Rattle.frame.specs.declared.walk.Stage.{Stage}
 use Rattle.frame.specs.declared.walk.Stage.TheVariants.{Start, Outside, Inside}
 use Rattle.refusals.specs.declared.Refusal.{Refusal}
 use Rattle.std.proofs.lemmas.List.{at_drop_more, get_or-set_other, get_or-replicate, length-set, length-take-le, take_more_set}
-use Rattle.std.proofs.lemmas.Bool.{cond_both, eq-eqb, ne_eqb, eqb-false, or_parts, or_from, or_left, false≢true}
+use Rattle.std.proofs.lemmas.Bool.{cases_Bool, cond_both, eq-eqb, eqb-true, ne_eqb, eqb-false, or_parts, or_from, or_left, false≢true}
+use Rattle.std.specs.List.{find}
+use Rattle.std.proofs.lemmas.Bool.Decides.{same_from_decides}
+use denote.Enum.Bare.{same_true, true_same}
+use Rattle.frame.specs.contracts.title.Title.{the_type}
+use Rattle.std.specs.Option.{is_some, option_copied}
 use Rattle.std.specs.Str.{bytes_eq}
 
--- the search for a title, one block on
-pub has_stops : (k : BlockTitle) (bs : List Block) (i : ℕ) (d : Block) → i < length bs → place_of (get_or bs i d).caption.title ≡ place_of k
-    → has_title k (drop i bs) ≡ has_title k bs → true ≡ has_title k bs
-has_stops k bs i d h e m = sym (sym m ∙ (at_drop_more (has_title k) bs i d h ∙ or_left _ _ (eq-eqb _ _ e)))
+-- the search for a title
+has_found : (k : BlockTitle) (bs : List Block) → has_title k bs ≡ is_some (block_of k bs)
+has_found k [] = refl
+has_found k (b ∷ bs) = elim (cases_Bool (eqb (place_of b.caption.title) (place_of k))) [ inl e ↦ rw e refl | inr e ↦ rw e (has_found k bs) ]
 
-pub has_goes : (k : BlockTitle) (bs : List Block) (i : ℕ) (d : Block) → i < length bs → (place_of (get_or bs i d).caption.title ≡ place_of k → ⊥)
-    → has_title k (drop i bs) ≡ has_title k bs → has_title k (drop (i + 1) bs) ≡ has_title k bs
-has_goes k bs i d h n m =
-    let t = ne_eqb _ _ n in
-    let here : (eqb (place_of (get_or bs i d).caption.title) (place_of k) || has_title k (drop (i + 1) bs)) ≡ has_title k (drop (i + 1) bs) = rw t in
-    sym here ∙ (sym (at_drop_more (has_title k) bs i d h) ∙ m)
+pub has_given : (k : BlockTitle) (bs : List Block) (o : Option (Bor Block)) → option_copied o ≡ block_of k bs → is_some o ≡ has_title k bs
+has_given k bs None e = ap is_some e ∙ sym (has_found k bs)
+has_given k bs (Some x) e = ap is_some e ∙ sym (has_found k bs)
+
+pub block_found : (k : BlockTitle) (bs : List Block) → block_of k bs ≡ find (λ b. eqb (place_of b.caption.title) (place_of k)) bs
+block_found k [] = refl
+block_found k (b ∷ bs) = ap (cond (eqb (place_of b.caption.title) (place_of k)) (Some b)) (block_found k bs)
+
+-- a title at its place
+title_at : ℕ → BlockTitle
+title_at n = get_or titles n FileReference
+
+at_place : (k : BlockTitle) → title_at (place_of k) ≡ k
+unfolding title_at titles
+at_place FileReference = refl
+at_place FileComment = refl
+at_place InputHistory = refl
+at_place InputFiles = refl
+at_place InputAcknowledgements = refl
+at_place NutationData = refl
+at_place PrecessionData = refl
+at_place SourceId = refl
+at_place SiteId = refl
+at_place SiteData = refl
+at_place SiteReceiver = refl
+at_place SiteAntenna = refl
+at_place SiteGpsPhaseCenter = refl
+at_place SiteGalPhaseCenter = refl
+at_place SiteEccentricity = refl
+at_place SatelliteId = refl
+at_place SatellitePhaseCenter = refl
+at_place BiasEpochs = refl
+at_place SolutionEpochs = refl
+at_place SolutionStatistics = refl
+at_place SolutionEstimate = refl
+at_place SolutionApriori = refl
+at_place SolutionMatrixEstimate = refl
+at_place SolutionMatrixApriori = refl
+at_place SolutionNormalEquationVector = refl
+at_place SolutionNormalEquationMatrix = refl
+
+-- two titles are the same exactly where their places are
+pub same_place : (a b : BlockTitle) → ghosts.eq a b ≡ eqb (place_of a) (place_of b)
+same_place a b = same_from_decides (ghosts.eq a b) _ (λ e. same_true the_type (search rules) a b e, λ e. true_same the_type a b e) (λ e. sym (at_place a) ∙ (ap title_at (eqb-true _ _ e) ∙ at_place b), λ e. eq-eqb _ _ (ap place_of e))
 
 -- a block more at the end
 eqb_sym : (a b : ℕ) → eqb a b ≡ false → eqb b a ≡ false
@@ -131,84 +175,70 @@ as_many (b ∷ bs) a =
 pub apart-few : (bs : List Block) → Apart bs → length bs ≤ 26
 apart-few bs a = omega (arith, as_many bs a, trues_within (marks bs), length_marks bs)
 
+-- the block that is open is new
+abbrev pub New : Stage → List Block → Type 0
+New Start bs = Unit {0}
+New Outside bs = Unit {0}
+New (Inside h b) bs = has_title b.caption.title bs ≡ false
+
+-- the data lines of the block that is open
+abbrev pub data_lines : Stage → ℕ
+data_lines Start = 0
+data_lines Outside = 0
+data_lines (Inside h b) = b.data_lines
+
 -- what the walk keeps of a progress
 pub record Orderly (f : Progress) : Type 0 where
-  pub places : length f.blocks ≡ 26
-  pub within : f.count ≤ 26
-  pub apart : Apart (ended_blocks f)
-  pub new : f.stage ≡ Inside → has_title f.current.caption.title (ended_blocks f) ≡ false
+  pub apart : Apart f.ended
+  pub new : New f.stage f.ended
 
 -- where a block is open there is a place for it
-pub orderly_spacious : (f : Progress) → Orderly f → Spacious f
-orderly_spacious f k = go f.stage refl
+pub orderly_spacious : (f : Progress) → Orderly f → data_lines f.stage ≤ 100000000 → Spacious f
+orderly_spacious f k l = go f.stage f.ended k.apart k.new l
   where
-    go : (s : Stage) → s ≡ f.stage → SpaciousAt s f.count
-    go Start e = k.within
-    go Outside e = k.within
-    go Inside e =
-        let few = apart-few (f.current ∷ ended_blocks f) (k.new (sym e), k.apart) in
-        let l : length (ended_blocks f) ≡ f.count = let p = k.places in let w = k.within in length-take-le f.count f.blocks (omega arith) in
-        omega arith
+    go : (s : Stage) (bs : List Block) → Apart bs → New s bs → data_lines s ≤ 100000000 → SpaciousIn s bs
+    go Start bs a n l = tt
+    go Outside bs a n l = tt
+    go (Inside h b) bs a n l = let few = apart-few (b ∷ bs) (n, a) in (omega arith, l)
 
 pub orderly_none : Orderly unread
-orderly_none = record { places = refl; within = omega arith; apart = tt; new = λ e. let z : ◌≡◌ {A = ℕ} 0 1 = cc in absurd (omega arith) }
+orderly_none = record { apart = tt; new = tt }
 
 -- what a step leaves: an orderly progress, and at most one data line more
-abbrev pub Stepped : Progress → Progress → Type 0
-Stepped f g = Orderly g × (g.current.data_lines ≤ f.current.data_lines + 1)
+abbrev pub Stepped : Stage → Progress → Type 0
+Stepped s g = Orderly g × (data_lines g.stage ≤ data_lines s + 1)
 
-abbrev Leaves : Progress → Result Progress Refusal → Type 0
-Leaves f r = IfOk r (Stepped f)
+abbrev Leaves : Stage → Result Progress Refusal → Type 0
+Leaves s r = IfOk r (Stepped s)
 
-not_inside : (s : Stage) → s ≡ Outside → s ≡ Inside → ⊥
-not_inside s p q = let z : ◌≡◌ {A = ℕ} 0 1 = cc in omega arith
+opening-leaves : (p q : Place) (s : Stage) (bs : List Block) (h : Heading) (o : Option Caption) → Apart bs → Leaves s (opening p q bs h o)
+opening-leaves p q s bs h None a = tt
+opening-leaves p q s bs h (Some c) a = cond_both (has_title c.title bs) _ _ (Leaves s) (λ _. tt) (λ e. (record { apart = a; new = e }, omega arith))
 
-opening-leaves : (p q : Place) (f : Progress) (h : Heading) (o : Option Caption) → Orderly f → Leaves f (opening p q f h o)
-opening-leaves p q f h None k = tt
-opening-leaves p q f h (Some c) k =
-    cond_both (has_title c.title (ended_blocks f)) _ _ (Leaves f) (λ _. tt)
-    (λ e. (record { places = k.places; within = k.within; apart = k.apart; new = λ _. e }, omega arith))
+outside-leaves : (p : Place) (bs : List Block) (ln : Line) (k : LineKind) → Apart bs → Leaves Outside (outside p bs ln k)
+outside-leaves p bs ln Bound a = tt
+outside-leaves p bs ln Comment a = (record { apart = a; new = tt }, omega arith)
+outside-leaves p bs ln Title a = opening-leaves p (passed p ln.len) Outside bs (heading_of ln) (caption_of (heading_of ln).text) a
+outside-leaves p bs ln End a = tt
+outside-leaves p bs ln Data a = tt
 
-closed-leaves : (p : Place) (f : Progress) (ln : Line) → Orderly f → f.stage ≡ Inside → Leaves f (closed p f ln)
-closed-leaves p f ln k s =
-    let few = apart-few (f.current ∷ ended_blocks f) (k.new s, k.apart) in
-    let room : f.count < length f.blocks = let p = k.places in let w = k.within in let l = length-take-le f.count f.blocks (omega arith) in omega arith in
-    cond_both (bytes_eq (heading_of ln).text f.heading.text) _ _ (Leaves f)
-    (λ _. (
-      record {
-        places = length-set f.blocks f.count _ ∙ k.places;
-        within = let p = k.places in omega arith;
-        apart = subst Apart (sym (take_more_set f.blocks f.count _ room)) (apart_push (ended_blocks f) _ k.apart (k.new s));
-        new = λ e. absurd (not_inside Outside refl e);
-      },
-      omega arith,
-    ))
-    (λ _. tt)
+inside-leaves : (p : Place) (bs : List Block) (ln : Line) (h : Heading) (b : Block) (k : LineKind) → Apart bs → has_title b.caption.title bs ≡ false
+    → Leaves (Inside h b) (inside p bs ln h b k)
+inside-leaves p bs ln h b Bound a n = tt
+inside-leaves p bs ln h b Comment a n = (record { apart = a; new = n }, omega arith)
+inside-leaves p bs ln h b Title a n = tt
+inside-leaves p bs ln h b End a n =
+    cond_both (bytes_eq (heading_of ln).text h.text) _ _ (Leaves (Inside h b)) (λ _. (record { apart = apart_push bs (ending p b) a n; new = tt }, omega arith)) (λ _. tt)
+inside-leaves p bs ln h b Data a n = (record { apart = a; new = n }, omega arith)
 
-outside-leaves : (p : Place) (f : Progress) (ln : Line) (s : LineKind) → Orderly f → Leaves f (outside p f ln s)
-outside-leaves p f ln Bound k = tt
-outside-leaves p f ln Comment k = (k, omega arith)
-outside-leaves p f ln Title k = opening-leaves p (passed p ln.len) f (heading_of ln) (caption_of (heading_of ln).text) k
-outside-leaves p f ln End k = tt
-outside-leaves p f ln Data k = tt
+by_stage_leaves : (p : Place) (bs : List Block) (ln : Line) (k : LineKind) (s : Stage) → Apart bs → New s bs → Leaves s (by_stage p bs ln k s)
+by_stage_leaves p bs ln k Start a n = cond_both (is_header ln) _ _ (Leaves Start) (λ _. (record { apart = a; new = tt }, omega arith)) (λ _. tt)
+by_stage_leaves p bs ln k Outside a n = outside-leaves p bs ln k a
+by_stage_leaves p bs ln k (Inside h b) a n = inside-leaves p bs ln h b k a n
 
-inside-leaves : (p : Place) (f : Progress) (ln : Line) (s : LineKind) → Orderly f → f.stage ≡ Inside → Leaves f (inside p f ln s)
-inside-leaves p f ln Bound k i = tt
-inside-leaves p f ln Comment k i = (k, omega arith)
-inside-leaves p f ln Title k i = tt
-inside-leaves p f ln End k i = closed-leaves p f ln k i
-inside-leaves p f ln Data k i = (record { places = k.places; within = k.within; apart = k.apart; new = k.new }, omega arith)
-
-by_stage_leaves : (p : Place) (f : Progress) (ln : Line) (s : LineKind) (t : Stage) → t ≡ f.stage → Orderly f → Leaves f (by_stage p f ln s t)
-by_stage_leaves p f ln s Start e k =
-    cond_both (is_header ln) _ _ (Leaves f)
-    (λ _. (record { places = k.places; within = k.within; apart = k.apart; new = λ e. absurd (not_inside Outside refl e) }, omega arith)) (λ _. tt)
-by_stage_leaves p f ln s Outside e k = outside-leaves p f ln s k
-by_stage_leaves p f ln s Inside e k = inside-leaves p f ln s k (sym e)
-
-by_kind_leaves : (p : Place) (f : Progress) (ln : Line) (o : Option LineKind) → Orderly f → Leaves f (by_kind p f ln o)
+by_kind_leaves : (p : Place) (f : Progress) (ln : Line) (o : Option LineKind) → Orderly f → Leaves f.stage (by_kind p f ln o)
 by_kind_leaves p f ln None k = tt
-by_kind_leaves p f ln (Some s) k = by_stage_leaves p f ln s f.stage refl k
+by_kind_leaves p f ln (Some s) k = by_stage_leaves p f.ended ln s f.stage k.apart k.new
 
-pub stepped-leaves : (p : Place) (f g : Progress) (ln : Line) → Orderly f → Ok g ≡ stepped p f ln → Stepped f g
-stepped-leaves p f g ln k e = subst (λ (r : Result Progress Refusal). IfOk r (Stepped f)) (sym e) (by_kind_leaves p f ln (kind_of ln) k)
+pub stepped-leaves : (p : Place) (f g : Progress) (ln : Line) → Orderly f → Ok g ≡ stepped p f ln → Stepped f.stage g
+stepped-leaves p f g ln k e = subst (λ (r : Result Progress Refusal). IfOk r (Stepped f.stage)) (sym e) (by_kind_leaves p f ln (kind_of ln) k)

@@ -1,15 +1,17 @@
 -- The recursion over lines, and the walk over byte places.
-use Rattle.std.proofs.Common.{◌≡◌, ℕ, suc, ◌+◌, ◌<◌, ◌≤◌, true, false, cond, eqb, List, [], ◌∷◌, length, drop, Ok, Err, Result, sym, refl, ap, ◌∙◌, inl, inr, add-one, arith}
-use Rattle.frame.proofs.Titled.{Orderly, orderly_none, stepped-leaves}
+use Rattle.std.proofs.Common.{◌≡◌, ℕ, suc, ◌+◌, ◌<◌, ◌≤◌, true, false, cond, eqb, List, [], ◌∷◌, length, drop, Some, None, Ok, Err, Option, Result, MatchResult, sym, refl, ap, ◌∙◌, inl, inr, add-one, arith}
+use Rattle.frame.proofs.Titled.{Orderly, data_lines, orderly_none, stepped-leaves}
 use Rattle.frame.specs.Frames.{at, frame, framed, ended, stepped, continued, unread, first_place}
 use Rattle.frame.specs.Lines.{lines, glue, first_line, fits, line_of, fetched, passed, is_nil}
-use Rattle.frame.specs.declared.line.Fetched.TheVariants.{End as NoLine, Unfit, Fit}
 use Rattle.frame.specs.declared.line.Line.{Line}
 use Rattle.frame.specs.declared.place.Place.{Place}
 use Rattle.frame.specs.declared.walk.Frame.{Frame}
 use Rattle.frame.specs.declared.walk.Progress.{Progress}
+use Rattle.refusals.specs.declared.Fault.{Fault}
 use Rattle.refusals.specs.declared.Fault.TheVariants.{UnfitLine, NoHeaderLine}
 use Rattle.refusals.specs.declared.Refusal.{Refusal}
+use Rattle.std.proofs.lemmas.Result.{err_from_is_err_and}
+use Rattle.std.specs.Result.{IsErrAnd}
 use Rattle.std.proofs.lemmas.List.{at_drop_all, drop-drop, length-drop}
 use Rattle.std.proofs.lemmas.Bool.{cond-true, cond-false, cases_Bool, cases_lt, false≢true, le-ltb}
 
@@ -29,16 +31,16 @@ nil_lines [] = refl
 nil_lines (c ∷ cs) = rw (lines_cons c cs) refl
 
 -- the first line of a content that is fetched
-first_read : (rest : List ℕ) (ln : Line) → Fit ln ≡ fetched rest
+first_read : (rest : List ℕ) (ln : Line) → Ok (Some ln) ≡ fetched rest
     → (fits (first_line rest) ≡ true) × (ln ≡ line_of (first_line rest)) × (lines rest ≡ first_line rest ∷ lines (drop (ln.len + 1) rest))
 first_read [] ln e = let z : ◌≡◌ {A = ℕ} 0 1 = cc in absurd (omega arith)
 first_read (c ∷ cs) ln e = elim (cases_Bool (fits (first_line (c ∷ cs)))) [
   | inl b ↦
-      let s : Fit ln ≡ Fit (line_of (first_line (c ∷ cs))) = e ∙ cond-true _ _ _ b in
+      let s : ◌≡◌ {A = Result (Option Line) Fault} (Ok (Some ln)) (Ok (Some (line_of (first_line (c ∷ cs))))) = e ∙ cond-true _ _ _ b in
       let t : ln ≡ line_of (first_line (c ∷ cs)) = cc in
       (b, t, rw t (lines_cons c cs))
   | inr b ↦
-      let s : Fit ln ≡ Unfit = e ∙ cond-false _ _ _ b in
+      let s : ◌≡◌ {A = Result (Option Line) Fault} (Ok (Some ln)) (Err UnfitLine) = e ∙ cond-false _ _ _ b in
       let z : ◌≡◌ {A = ℕ} 0 1 = cc in absurd (omega arith)
 ]
 
@@ -49,7 +51,7 @@ pub record Read (cs : List ℕ) (b : ℕ) (ln : Line) : Type 0 where
   pub same : line_of text ≡ ln
   pub parts : lines (drop b cs) ≡ text ∷ lines (drop (b + ln.len + 1) cs)
 
-pub read : (cs : List ℕ) (b : ℕ) (ln : Line) → Fit ln ≡ fetched (drop b cs) → Read cs b ln
+pub read : (cs : List ℕ) (b : ℕ) (ln : Line) → Ok (Some ln) ≡ fetched (drop b cs) → Read cs b ln
 read cs b ln e =
     let k = first_read (drop b cs) ln e in
     let sum : b + (ln.len + 1) ≡ b + ln.len + 1 = omega arith in
@@ -66,13 +68,13 @@ first-within [] = omega arith
 first-within (c ∷ cs) = let h = first-within cs in elim (cases_Bool (eqb c 10)) [ inl e ↦ rw e (omega arith) | inr e ↦ rw e (omega arith) ]
 
 -- a line that was fetched lies within the content
-pub read_within : (cs : List ℕ) (at : ℕ) (ln : Line) → at ≤ length cs → Fit ln ≡ fetched (drop at cs) → at + ln.len ≤ length cs
+pub read_within : (cs : List ℕ) (at : ℕ) (ln : Line) → at ≤ length cs → Ok (Some ln) ≡ fetched (drop at cs) → at + ln.len ≤ length cs
 read_within cs at ln h e =
     let same : ln.len ≡ length (first_line (drop at cs)) = ap (λ (m : Line). m.len) (first_read (drop at cs) ln e).1 in
     omega (arith, first-within (drop at cs), length-drop at cs)
 
 -- one turn: the recursion over the lines, in the words of the walk
-pub turn : (cs : List ℕ) (p : Place) (f : Progress) (ln : Line) → Fit ln ≡ fetched (drop p.byte cs)
+pub turn : (cs : List ℕ) (p : Place) (f : Progress) (ln : Line) → Ok (Some ln) ≡ fetched (drop p.byte cs)
     → frame p f (lines (drop p.byte cs)) ≡ cond (is_nil (drop (p.byte + ln.len + 1) cs)) (ended p f ln)
     (continued (stepped p f ln) (λ g. frame (passed p ln.len) g (lines (drop (p.byte + ln.len + 1) cs))))
 unfolding frame
@@ -84,41 +86,44 @@ turn cs p f ln e =
     (continued (stepped p f m) (λ g. frame (passed p m.len) g (lines (drop (p.byte + ln.len + 1) cs)))) in
     ap (frame p f) k.parts ∙ (rw (fit, nil) refl ∙ ap W k.same)
 
-pub turn_last : (cs : List ℕ) (p : Place) (f : Progress) (ln : Line) → Fit ln ≡ fetched (drop p.byte cs) → true ≡ is_nil (drop (p.byte + ln.len + 1) cs)
+pub turn_last : (cs : List ℕ) (p : Place) (f : Progress) (ln : Line) → Ok (Some ln) ≡ fetched (drop p.byte cs) → true ≡ is_nil (drop (p.byte + ln.len + 1) cs)
     → ended p f ln ≡ frame p f (lines (drop p.byte cs))
 turn_last cs p f ln e n = sym (turn cs p f ln e ∙ cond-true _ _ _ (sym n))
 
-pub turn_stops : (cs : List ℕ) (p : Place) (f : Progress) (ln : Line) (b : Refusal) → Fit ln ≡ fetched (drop p.byte cs) → false ≡ is_nil (drop (p.byte + ln.len + 1) cs)
+pub turn_stops : (cs : List ℕ) (p : Place) (f : Progress) (ln : Line) (b : Refusal) → Ok (Some ln) ≡ fetched (drop p.byte cs) → false ≡ is_nil (drop (p.byte + ln.len + 1) cs)
     → Err b ≡ stepped p f ln → Err b ≡ frame p f (lines (drop p.byte cs))
 turn_stops cs p f ln b e n s =
     let K : Result Progress Refusal → Result Frame Refusal = λ r. continued r (λ g. frame (passed p ln.len) g (lines (drop (p.byte + ln.len + 1) cs))) in
     sym (turn cs p f ln e ∙ (cond-false _ _ _ (sym n) ∙ ap K (sym s)))
 
-pub turn_goes : (cs : List ℕ) (p : Place) (f g : Progress) (ln : Line) → Fit ln ≡ fetched (drop p.byte cs) → false ≡ is_nil (drop (p.byte + ln.len + 1) cs)
+pub turn_goes : (cs : List ℕ) (p : Place) (f g : Progress) (ln : Line) → Ok (Some ln) ≡ fetched (drop p.byte cs) → false ≡ is_nil (drop (p.byte + ln.len + 1) cs)
     → Ok g ≡ stepped p f ln → frame (passed p ln.len) g (lines (drop (p.byte + ln.len + 1) cs)) ≡ frame p f (lines (drop p.byte cs))
 turn_goes cs p f g ln e n s =
     let K : Result Progress Refusal → Result Frame Refusal = λ r. continued r (λ g. frame (passed p ln.len) g (lines (drop (p.byte + ln.len + 1) cs))) in
     sym (turn cs p f ln e ∙ (cond-false _ _ _ (sym n) ∙ ap K (sym s)))
 
-pub turn_unfit : (cs : List ℕ) (p : Place) (f : Progress) → Unfit ≡ fetched cs → Err (at UnfitLine p) ≡ frame p f (lines cs)
+pub turn_unfit : (cs : List ℕ) (p : Place) (f : Progress) (x : Fault) → Err x ≡ fetched cs → Err (at x p) ≡ frame p f (lines cs)
 unfolding frame
-turn_unfit [] p f e = let z : ◌≡◌ {A = ℕ} 0 1 = cc in absurd (omega arith)
-turn_unfit (c ∷ cs) p f e = elim (cases_Bool (fits (first_line (c ∷ cs)))) [
+turn_unfit [] p f x e = let z : ◌≡◌ {A = ℕ} 0 1 = cc in absurd (omega arith)
+turn_unfit (c ∷ cs) p f x e = elim (cases_Bool (fits (first_line (c ∷ cs)))) [
   | inl b ↦
-      let s : Unfit ≡ Fit (line_of (first_line (c ∷ cs))) = e ∙ cond-true _ _ _ b in
+      let s : ◌≡◌ {A = Result (Option Line) Fault} (Err x) (Ok (Some (line_of (first_line (c ∷ cs))))) = e ∙ cond-true _ _ _ b in
       let z : ◌≡◌ {A = ℕ} 0 1 = cc in absurd (omega arith)
-  | inr b ↦ rw (lines_cons c cs, b) refl
+  | inr b ↦
+      let s : ◌≡◌ {A = Result (Option Line) Fault} (Err x) (Err UnfitLine) = e ∙ cond-false _ _ _ b in
+      let same : x ≡ UnfitLine = cc in
+      rw (lines_cons c cs, b, same) refl
 ]
 
-pub turn_none : (cs : List ℕ) (p : Place) (f : Progress) → NoLine ≡ fetched cs → Err (at NoHeaderLine p) ≡ frame p f (lines cs)
+pub turn_none : (cs : List ℕ) (p : Place) (f : Progress) → Ok None ≡ fetched cs → Err (at NoHeaderLine p) ≡ frame p f (lines cs)
 unfolding frame
 turn_none [] p f e = refl
 turn_none (c ∷ cs) p f e = elim (cases_Bool (fits (first_line (c ∷ cs)))) [
   | inl b ↦
-      let s : NoLine ≡ Fit (line_of (first_line (c ∷ cs))) = e ∙ cond-true _ _ _ b in
+      let s : ◌≡◌ {A = Result (Option Line) Fault} (Ok None) (Ok (Some (line_of (first_line (c ∷ cs))))) = e ∙ cond-true _ _ _ b in
       let z : ◌≡◌ {A = ℕ} 0 1 = cc in absurd (omega arith)
   | inr b ↦
-      let s : NoLine ≡ Unfit = e ∙ cond-false _ _ _ b in
+      let s : ◌≡◌ {A = Result (Option Line) Fault} (Ok None) (Err UnfitLine) = e ∙ cond-false _ _ _ b in
       let z : ◌≡◌ {A = ℕ} 0 1 = cc in absurd (omega arith)
 ]
 
@@ -127,7 +132,7 @@ pub record Going (cs : List ℕ) (p : Place) (f : Progress) : Type 0 where
   pub within : p.byte ≤ length cs
   pub small : length cs ≤ 100000000
   pub number : p.line ≤ p.byte + 1
-  pub count : f.current.data_lines ≤ p.byte
+  pub count : data_lines f.stage ≤ p.byte
   pub orderly : Orderly f
   pub rest : frame p f (lines (drop p.byte cs)) ≡ frame first_place unread (lines cs)
 
@@ -137,7 +142,7 @@ within_more cs i e = elim (cases_lt i (length cs)) [
   | inr h ↦ let s : is_nil (drop i cs) ≡ true = at_drop_all is_nil cs i h in let z : false ≡ true = e ∙ s in absurd (false≢true z)
 ]
 
-pub going_more : (cs : List ℕ) (p q : Place) (f g : Progress) (ln : Line) → Going cs p f → Fit ln ≡ fetched (drop p.byte cs)
+pub going_more : (cs : List ℕ) (p q : Place) (f g : Progress) (ln : Line) → Going cs p f → Ok (Some ln) ≡ fetched (drop p.byte cs)
     → false ≡ is_nil (drop (p.byte + ln.len + 1) cs) → Ok g ≡ stepped p f ln → q ≡ passed p ln.len → Going cs q g
 going_more cs p q f g ln k e n s m =
     let h = within_more cs _ n in
@@ -162,8 +167,21 @@ pub going_all : (cs : List ℕ) (p : Place) (f : Progress) → Going cs p f → 
 going_all cs p f k = k.rest ∙ sym (cond-false _ _ _ (le-ltb 100000000 (length cs) k.small))
 
 -- a line that was fetched begins within the content, and ends there
-pub read_bound : (cs : List ℕ) (at : ℕ) (ln : Line) → Fit ln ≡ fetched (drop at cs) → (at < length cs) × (at + ln.len ≤ length cs)
+pub read_bound : (cs : List ℕ) (at : ℕ) (ln : Line) → Ok (Some ln) ≡ fetched (drop at cs) → (at < length cs) × (at + ln.len ≤ length cs)
 read_bound cs at ln e = elim (cases_lt at (length cs)) [
   | inl h ↦ (h, read_within cs at ln (omega arith) e)
-  | inr h ↦ let s : fetched (drop at cs) ≡ NoLine = at_drop_all fetched cs at h in let z : ◌≡◌ {A = ℕ} 0 1 = cc in absurd (omega arith)
+  | inr h ↦ let s : fetched (drop at cs) ≡ Ok None = at_drop_all fetched cs at h in let z : ◌≡◌ {A = ℕ} 0 1 = cc in absurd (omega arith)
 ]
+
+-- what `map_err` was called on
+ok_or_err : {T D : Type 0} (x : T) (y : D) → ◌≡◌ {A = Result T D} (Ok x) (Err y) → ⊥
+ok_or_err x y q = let z : ◌≡◌ {A = ℕ} 0 1 = cc in omega arith
+
+pub mapped_ok : {T E D : Type 0} (r : Result T E) (m : Result T D) (x : T) (Q : E → D → Type 0) → MatchResult r (λ y. m ≡ Ok y) (λ e. IsErrAnd m (Q e)) → m ≡ Ok x → r ≡ Ok x
+mapped_ok (Ok y) m x Q h e = let same : y ≡ x = cc in ap Ok same
+mapped_ok (Err d) m x Q h e = let k = err_from_is_err_and m h in absurd (ok_or_err x k.0 (sym e ∙ k.1))
+
+pub mapped_err : {T E D : Type 0} (r : Result T E) (m : Result T D) (d : D) (Q : E → D → Type 0) (f : E → D) → MatchResult r (λ y. m ≡ Ok y) (λ e. IsErrAnd m (Q e)) → m ≡ Err d
+    → ((e : E) (b : D) → Q e b → b ≡ f e) → (e : E) × (r ≡ Err e) × (d ≡ f e)
+mapped_err (Ok y) m d Q f h e q = absurd (ok_or_err y d (sym h ∙ e))
+mapped_err (Err x) m d Q f h e q = let k = err_from_is_err_and m h in let same : k.0 ≡ d = let l = k.1 in cc in (x, refl, sym same ∙ q x k.0 k.2)

@@ -1,10 +1,11 @@
 -- Lemmas on a content that is walked from a place on.
-use Rattle.std.proofs.Common.{◌≡◌, ℕ, ◌+◌, ◌-◌, ◌<◌, ◌≤◌, Bool, true, false, cond, ◌&&◌, eqb, List, [], ◌∷◌, ◌++◌, length, get_or, take, drop, set, replicate, Some, None, sym, refl, ap, ◌∙◌, inl, inr, arith}
+use Rattle.std.proofs.Common.{◌≡◌, ℕ, ◌+◌, ◌-◌, ◌<◌, ◌≤◌, Bool, true, false, cond, not, ◌&&◌, eqb, List, [], ◌∷◌, ◌++◌, length, get_or, take, drop, set, replicate, Some, None, Ok, Err, sym, refl, ap, ◌∙◌, inl, inr, arith}
 use Rattle.frame.specs.Lines.{first_line, all_printable, fits, padded, line_of, fetched, is_nil}
-use Rattle.frame.specs.declared.line.Fetched.TheVariants.{Unfit, Fit}
+use Rattle.refusals.specs.declared.Fault.TheVariants.{UnfitLine}
 use Rattle.std.proofs.lemmas.List.{at_drop_more, at_drop_all, append-nil, take_more_set, drop_more, drop-drop, length-set, length-take-le, length-append, append_assoc, take-append-drop, drop-set-lt, drop-replicate}
-use Rattle.std.proofs.lemmas.Bool.{and_left, and_from, and_right, lt-leb, le-leb, ne_eqb, cases_lt, lt-ltb, le-ltb, cond-true, cond-false}
+use Rattle.std.proofs.lemmas.Bool.{and_left, and_from, and_right, lt-leb, le-leb, ne_eqb, cases_lt, lt-ltb, le-ltb, cond-true, cond-false, false≢true}
 use Rattle.media.specs.Media.{byte_at}
+use Rattle.std.specs.Option.{is_some}
 
 -- a test of every element, by recursion: the loop over it, at an element that fails and at one that passes
 pub by_and_stops : {X : Type 0} (d : X) (p : X → Bool) (f : List X → Bool) → ((x : X) (xs : List X) → f (x ∷ xs) ≡ (p x && f xs))
@@ -88,11 +89,11 @@ copied_all cs at len bytes k e = k.line ∙ (ap (λ (t : List ℕ). take len byt
 
 -- what is fetched where a line begins
 pub fetched_line : (cs : List ℕ) (at : ℕ) → at < length cs
-    → fetched (drop at cs) ≡ cond (fits (first_line (drop at cs))) (Fit (line_of (first_line (drop at cs)))) Unfit
+    → fetched (drop at cs) ≡ cond (fits (first_line (drop at cs))) (Ok (Some (line_of (first_line (drop at cs))))) (Err UnfitLine)
 fetched_line cs at h = rw (drop_more cs at 0 h)
 
 pub fetched-fit : (cs : List ℕ) (at len : ℕ) (bytes : List ℕ) → at < length cs → Copied cs at len bytes → first_line (drop (at + len) cs) ≡ []
-    → all_printable (take len bytes) ≡ true → Fit (record { columns = bytes; len = len }) ≡ fetched (drop at cs)
+    → all_printable (take len bytes) ≡ true → Ok (Some (record { columns = bytes; len = len })) ≡ fetched (drop at cs)
 fetched-fit cs at len bytes h k e p =
     let all = copied_all cs at len bytes k e in
     let long : length (take len bytes) ≡ len = let l = k.long in let s = k.short in length-take-le len bytes (omega arith) in
@@ -101,14 +102,14 @@ fetched-fit cs at len bytes h k e p =
     sym (fetched_line cs at h ∙ (rw (all, ok, pad, long) refl))
 
 pub fetched_unfit : (cs : List ℕ) (at len : ℕ) (bytes : List ℕ) → at < length cs → Copied cs at len bytes → first_line (drop (at + len) cs) ≡ []
-    → all_printable (take len bytes) ≡ false → Unfit ≡ fetched (drop at cs)
+    → all_printable (take len bytes) ≡ false → Err UnfitLine ≡ fetched (drop at cs)
 fetched_unfit cs at len bytes h k e p =
     let all = copied_all cs at len bytes k e in
     let bad : fits (take len bytes) ≡ false = and_right _ _ p in
     sym (fetched_line cs at h ∙ (rw (all, bad) refl))
 
 pub fetched-long : (cs : List ℕ) (at len b : ℕ) (bytes : List ℕ) → at < length cs → Copied cs at len bytes → byte_at cs (at + len) ≡ Some b → (b ≡ 10 → ⊥)
-    → len ≡ 80 → Unfit ≡ fetched (drop at cs)
+    → len ≡ 80 → Err UnfitLine ≡ fetched (drop at cs)
 fetched-long cs at len b bytes h k e n m =
     let more : first_line (drop (at + len) cs) ≡ b ∷ first_line (drop (at + len + 1) cs) = first_more cs (at + len) b e n in
     let full : length (take len bytes) ≡ len = let l = k.long in let s = k.short in length-take-le len bytes (omega arith) in
@@ -123,8 +124,21 @@ byte_none cs i e = elim (cases_lt i (length cs)) [
 ]
 
 -- whether anything is left at a place
-pub nil_past : (cs : List ℕ) (i : ℕ) → None ≡ byte_at cs i → true ≡ is_nil (drop i cs)
-nil_past cs i e = sym (at_drop_all is_nil cs i (byte_none cs i e))
-
-pub nil_within : (cs : List ℕ) (i b : ℕ) → byte_at cs i ≡ Some b → false ≡ is_nil (drop i cs)
-nil_within cs i b e = sym (at_drop_more is_nil cs i 0 (byte_some cs i b e).0)
+pub nil_tested : (cs : List ℕ) (i : ℕ) (r : Bool) → is_some (byte_at cs i) ≡ not r → r ≡ is_nil (drop i cs)
+nil_tested cs i r e = elim (cases_lt i (length cs)) [
+  | inl h ↦
+      let f : byte_at cs i ≡ Some (get_or cs i 0) = cond-true _ _ _ (lt-ltb _ _ h) in
+      let n : true ≡ not r = sym (ap is_some f) ∙ e in
+      flip r n ∙ sym (at_drop_more is_nil cs i 0 h)
+  | inr h ↦
+      let f : byte_at cs i ≡ None = cond-false _ _ _ (le-ltb _ _ h) in
+      let n : false ≡ not r = sym (ap is_some f) ∙ e in
+      stay r n ∙ sym (at_drop_all is_nil cs i h)
+]
+  where
+    flip : (r : Bool) → true ≡ not r → r ≡ false
+    flip true e = absurd (false≢true (sym e))
+    flip false e = refl
+    stay : (r : Bool) → false ≡ not r → r ≡ true
+    stay true e = refl
+    stay false e = absurd (false≢true e)

@@ -1,70 +1,68 @@
 -- Lemmas on words of a line, and on the search through the titles.
-use Rattle.std.proofs.Common.{◌≡◌, ℕ, ◌+◌, ◌-◌, ◌<◌, ◌≤◌, Bool, true, false, ◌&&◌, eqb, List, [], ◌∷◌, length, get_or, take, drop, Some, Decides, Option, sym, refl, ap, ◌∙◌, inl, inr, arith, rules}
-use Rattle.frame.specs.Headings.{begins, caption_adding, caption_by, caption_of, adds_by, first_word_is, title_among, title_named}
+use Rattle.std.proofs.Common.{◌≡◌, ℕ, zero, suc, ◌+◌, Bool, true, false, cond, ◌&&◌, eqb, nat_eq, List, [], ◌∷◌, length, get_or, take, drop, Some, None, Option, Bor, Iter, MatchOption, sym, refl, ap, ◌∙◌, inl, inr, arith}
+use Rattle.codes.specs.declared.letters.MatrixKind.{MatrixKind}
+use Rattle.frame.specs.Headings.{begins, first_word_is, form, is_text, title_among}
 use Rattle.frame.specs.Titles.{name_of}
-use Rattle.frame.specs.declared.heading.Caption.{Caption}
+use Rattle.frame.specs.declared.heading.MatrixForm.{MatrixForm}
 use Rattle.frame.specs.declared.title.Title.{Title}
-use Rattle.std.proofs.lemmas.List.{at_drop_more, drop_more, drop_all, get_or_past, take_rest}
-use Rattle.std.proofs.lemmas.Bool.{and_left, and_right, eq-eqb, ne_eqb, cond-true, cond-false, cases_Bool, cases_lt, false≢true}
-use Rattle.std.proofs.lemmas.Slice.Eq.{bytes_eq-Decides}
-use Rattle.std.specs.Str.{bytes_eq}
+use Rattle.std.specs.Cmp.Lexicographic.{pointwise}
+use Rattle.std.specs.List.{find}
+use Rattle.std.proofs.iter.Yields.{fronts}
+use Rattle.std.proofs.lemmas.Iterator.{YieldsList}
+use Rattle.std.specs.Option.{option_map}
+use Rattle.std.proofs.lemmas.Bool.{cases_Bool}
+use Rattle.std.proofs.lemmas.Bool.Decides.{nat_tests}
+use Rattle.std.proofs.lemmas.List.{drop_all}
+use Rattle.triangle.specs.declared.row.Side.{Side}
 
--- one byte on
-begins_more : (xs ws : List ℕ) (i : ℕ) → i < length xs → i < length ws
-    → begins (drop i xs) (drop i ws) ≡ (eqb (get_or xs i 0) (get_or ws i 0) && begins (drop (i + 1) xs) (drop (i + 1) ws))
-begins_more xs ws i h k = rw (drop_more xs i 0 h, drop_more ws i 0 k)
+-- what stands at the front is the word
+begins_front : (xs ws : List ℕ) → begins xs ws ≡ pointwise nat_eq (take (length ws) xs) ws
+begins_front xs [] = refl
+begins_front [] (w ∷ ws) = refl
+begins_front (x ∷ xs) (w ∷ ws) = ap (λ b. eqb x w && b) (begins_front xs ws)
 
-pub begins_stops : (xs ws : List ℕ) (i : ℕ) → i < length xs → i < length ws → (get_or xs i 0 ≡ get_or ws i 0 → ⊥)
-    → begins (drop i xs) (drop i ws) ≡ begins xs ws → false ≡ begins xs ws
-begins_stops xs ws i h k n e = sym (sym e ∙ (begins_more xs ws i h k ∙ and_left _ _ (ne_eqb _ _ n)))
+eqb_swap : (a b : ℕ) → eqb a b ≡ eqb b a
+eqb_swap a b = grind (arith, nat_tests)
 
-pub begins-goes : (xs ws : List ℕ) (i : ℕ) → i < length xs → i < length ws → get_or xs i 0 ≡ get_or ws i 0
-    → begins (drop i xs) (drop i ws) ≡ begins xs ws → begins (drop (i + 1) xs) (drop (i + 1) ws) ≡ begins xs ws
-begins-goes xs ws i h k n e =
-    let t : eqb (get_or xs i 0) (get_or ws i 0) ≡ true = eq-eqb _ _ n in
-    let here : (eqb (get_or xs i 0) (get_or ws i 0) && begins (drop (i + 1) xs) (drop (i + 1) ws)) ≡ begins (drop (i + 1) xs) (drop (i + 1) ws) = rw t in
-    sym here ∙ (sym (begins_more xs ws i h k) ∙ e)
+pub front_begins : (xs ws : List ℕ) → pointwise nat_eq ws (take (length ws) xs) ≡ begins xs ws
+front_begins xs [] = refl
+front_begins [] (w ∷ ws) = refl
+front_begins (x ∷ xs) (w ∷ ws) = rw (front_begins xs ws, eqb_swap w x) refl
 
-pub begins_all : (xs ws : List ℕ) (i : ℕ) → length ws ≤ i → begins (drop i xs) (drop i ws) ≡ begins xs ws → true ≡ begins xs ws
-begins_all xs ws i h e =
-    let none : begins (drop i xs) (drop i ws) ≡ true = rw (drop_all i ws h) refl in
-    sym none ∙ e
+-- a test of what follows a word at the front
+pub stripped : (xs ws : List ℕ) (f : List ℕ → Bool) (o : Option (Bor (List ℕ))) (r : Bool)
+    → MatchOption o (pointwise nat_eq (take (length ws) xs) ws ≡ false) (λ x. (pointwise nat_eq (take (length ws) xs) ws ≡ true) × (x.now ≡ drop (length ws) xs) × (length x.now + length ws ≡ length xs))
+    → MatchOption o (r ≡ false) (λ x. r ≡ f x.now) → r ≡ (begins xs ws && f (drop (length ws) xs))
+stripped xs ws f None r e q = rw (begins_front, e) q
+stripped xs ws f (Some x) r e q = rw (begins_front, e.0) (q ∙ ap f e.1)
 
--- a word that is longer than the text
-pub begins-long : (xs ws : List ℕ) → length xs < length ws → false ≡ begins xs ws
-begins-long xs [] h = absurd (omega arith)
-begins-long [] (w ∷ ws) h = refl
-begins-long (x ∷ xs) (w ∷ ws) h = elim (cases_Bool (eqb x w)) [ inl e ↦ rw e (begins-long xs ws (omega arith)) | inr e ↦ rw e refl ]
+-- the blank after a word
+pub blank_first : (n : ℕ) (xs : List ℕ) → begins (drop n xs) (32 ∷ []) ≡ eqb (get_or xs n 0) 32
+blank_first n [] = rw (drop_all {X = ℕ} n [] (omega arith)) refl
+blank_first zero (x ∷ xs) = whole (eqb x 32)
+  where
+    whole : (b : Bool) → (b && true) ≡ b
+    whole true = refl
+    whole false = refl
+blank_first (suc n) (x ∷ xs) = blank_first n xs
 
-pub begins-within : (xs ws : List ℕ) → true ≡ begins xs ws → length ws ≤ length xs
-begins-within xs ws e = elim (cases_lt (length xs) (length ws)) [
-  | inl h ↦ let z : true ≡ false = e ∙ sym (begins-long xs ws h) in absurd (false≢true (sym z))
-  | inr h ↦ h
-]
+pub among_found : (text : List ℕ) (ks : List Title) → title_among text ks ≡ find (λ k. first_word_is (name_of k) text) ks
+among_found text [] = refl
+among_found text (k ∷ ks) = ap (cond (first_word_is (name_of k) text) (Some k)) (among_found text ks)
 
--- the search through the titles, one title on
-pub among_stops : (t : List ℕ) (ks : List Title) (i : ℕ) (k d : Title) (r : Option Title) → i < length ks → k ≡ get_or ks i d → first_word_is (name_of k) t ≡ true
-    → title_among t (drop i ks) ≡ r → Some k ≡ r
-among_stops t ks i k d r h e n m =
-    sym (sym m ∙ (at_drop_more (title_among t) ks i d h ∙ (cond-true _ _ _ (rw e at n) ∙ ap Some (sym e))))
+-- the form of the first of some words that the text is
+abbrev pub spelled_form : List ℕ → List (Bor (List ℕ) × Side × MatrixKind) → Option MatrixForm
+spelled_form text [] = None
+spelled_form text (t ∷ ts) = cond (is_text t.0.now text) (form t.1 t.2) (spelled_form text ts)
 
-pub among_goes : (t : List ℕ) (ks : List Title) (i : ℕ) (k d : Title) (r : Option Title) → i < length ks → k ≡ get_or ks i d → first_word_is (name_of k) t ≡ false
-    → title_among t (drop i ks) ≡ r → title_among t (drop (i + 1) ks) ≡ r
-among_goes t ks i k d r h e n m = sym (sym m ∙ (at_drop_more (title_among t) ks i d h ∙ cond-false _ _ _ (rw e at n)))
+abbrev pub formed : Bor (List ℕ) × Side × MatrixKind → MatrixForm
+formed t = record { side = t.1; kind = t.2 }
 
--- a word as long as the text or longer leaves no blank after it
-pub first_word_long : (w t : List ℕ) → length t ≤ length w → false ≡ first_word_is w t
-unfolding first_word_is
-first_word_long w t h = sym (and_right _ _ (ap (λ (b : ℕ). eqb b 32) (get_or_past t (length w) 0 h)))
+mapped_form : (text : List ℕ) (ts : List (Bor (List ℕ) × Side × MatrixKind)) → option_map formed (find (λ t. is_text t.0.now text) ts) ≡ spelled_form text ts
+mapped_form text [] = refl
+mapped_form text (t ∷ ts) = elim (cases_Bool (is_text t.0.now text)) [ inl e ↦ rw e refl | inr e ↦ rw e (mapped_form text ts) ]
 
--- the words after a title's name, as a part of the text
-pub caption_at : (text name : List ℕ) (k : Title) (r : Option Caption) → Some k ≡ title_named text → name_of k ≡ name → length text ≡ 79
-    → r ≡ caption_adding k (take (79 - (length name + 1)) (drop (length name + 1) text)) (adds_by k) → r ≡ caption_of text
-caption_at text name k r t n l e =
-    let whole : take (79 - (length name + 1)) (drop (length name + 1) text) ≡ drop (length name + 1) text
-    = ap (λ (m : ℕ). take (m - (length name + 1)) (drop (length name + 1) text)) (sym l) ∙ take_rest text (length name + 1) in
-    e ∙ (ap (λ (rest : List ℕ). caption_adding k rest (adds_by k)) (whole ∙ ap (λ (w : List ℕ). drop (length w + 1) text) (sym n)) ∙ ap (caption_by text) t)
-
--- a test of two texts that decides whether they are equal
-pub same_tested : (xs ys : List ℕ) (r : Bool) → Decides r (xs ≡ ys) → r ≡ bytes_eq xs ys
-same_tested xs ys r h = search (rules, bytes_eq-Decides)
+pub form_found : (text : List ℕ) {s : Iter (Bor (List ℕ) × Side × MatrixKind)} {ts : List (Bor (List ℕ) × Side × MatrixKind)} → YieldsList fronts (λ y. y.now) s ts
+    → (o r : Option (Bor (Bor (List ℕ) × Side × MatrixKind))) → o ≡ r → option_map (λ y. y.now) o ≡ find (λ t. is_text t.0.now text) ts → option_map (λ y. formed y.now) r ≡ spelled_form text ts
+form_found text {ts = ts} y o None e f = ap (option_map formed) (ap (option_map (λ y. y.now)) (sym e) ∙ f) ∙ mapped_form text ts
+form_found text {ts = ts} y o (Some t) e f = ap (option_map formed) (ap (option_map (λ y. y.now)) (sym e) ∙ f) ∙ mapped_form text ts

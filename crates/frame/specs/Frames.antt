@@ -1,6 +1,7 @@
 -- The frame of a file, as a recursion over its lines.
-use Rattle.std.specs.Prelude.{ℕ, ◌+◌, ◌<◌, ◌≤◌, Bool, false, cond, ◌&&◌, ◌||◌, List, [], ◌∷◌, length, take, replicate, Some, None, Ok, Err, codes, Option, Result, ◌==◌, nat_lt, slice_set}
-use Rattle.frame.specs.Headings.{begins, caption_of, heading_of, headed, is_text}
+use Rattle.std.specs.Prelude.{ℕ, ◌+◌, ◌<◌, ◌≤◌, Bool, false, cond, ◌&&◌, ◌||◌, List, [], ◌∷◌, ◌++◌, length, Some, None, Ok, Err, codes, Option, Result, ◌==◌, nat_lt}
+use Rattle.frame.specs.Blocks.{frame_as}
+use Rattle.frame.specs.Headings.{begins, caption_of, heading_of, is_text}
 use Rattle.frame.specs.Lines.{lines, fits, line_of, passed, is_nil, kind_of}
 use Rattle.frame.specs.Titles.{place_of}
 use Rattle.frame.specs.declared.heading.Caption.{Caption}
@@ -10,7 +11,7 @@ use Rattle.frame.specs.declared.line.LineKind.{LineKind}
 use Rattle.frame.specs.declared.line.LineKind.TheVariants.{Bound, Comment, Title, End, Data}
 use Rattle.frame.specs.declared.place.Place.{Place}
 use Rattle.frame.specs.declared.title.Title.{Title as BlockTitle}
-use Rattle.frame.specs.declared.title.Title.TheVariants.{FileReference, SiteId, SolutionEpochs, SolutionEstimate, SolutionApriori, SolutionMatrixEstimate}
+use Rattle.frame.specs.declared.title.Title.TheVariants.{SiteId, SolutionEpochs, SolutionEstimate, SolutionApriori, SolutionMatrixEstimate}
 use Rattle.frame.specs.declared.walk.Block.{Block}
 use Rattle.frame.specs.declared.walk.Frame.{Frame}
 use Rattle.frame.specs.declared.walk.Progress.{Progress}
@@ -35,55 +36,31 @@ abbrev pub has_title : BlockTitle → List Block → Bool
 has_title k [] = false
 has_title k (b ∷ bs) = place_of b.caption.title == place_of k || has_title k bs
 
--- the blocks that are ended
-abbrev pub ended_blocks : Progress → List Block
-ended_blocks f = take f.count f.blocks
+-- the first of the blocks that have this title
+abbrev pub block_of : BlockTitle → List Block → Option Block
+block_of k [] = None
+block_of k (b ∷ bs) = cond (place_of b.caption.title == place_of k) (Some b) (block_of k bs)
 
 -- a block begins: its title has to be one of the format's, and no earlier block may have it
-abbrev pub opening : Place → Place → Progress → Heading → Option Caption → Result Progress Refusal
-opening p q f h None = Err (at WrongTitle p)
-opening p q f h (Some c) = cond (has_title c.title (ended_blocks f)) (Err (at TitleTwice p)) (Ok (record {
-  stage = Inside;
-  heading = h;
-  current = record { caption = c; start = p; body = q; data_lines = 0; end = 0 };
-  blocks = f.blocks;
-  count = f.count;
-}))
+abbrev pub opening : Place → Place → List Block → Heading → Option Caption → Result Progress Refusal
+opening p q bs h None = Err (at WrongTitle p)
+opening p q bs h (Some c) = cond (has_title c.title bs) (Err (at TitleTwice p))
+    (Ok (record { stage = Inside h (record { caption = c; start = p; body = q; data_lines = 0; end = 0 }); ended = bs }))
 
-abbrev pub opened : Place → Progress → Line → Result Progress Refusal
-opened p f ln = opening p (passed p ln.len) f (heading_of ln) (caption_of (heading_of ln).text)
+abbrev pub opened : Place → List Block → Line → Result Progress Refusal
+opened p bs ln = opening p (passed p ln.len) bs (heading_of ln) (caption_of (heading_of ln).text)
+
+-- a block that ends in the line of a place
+abbrev pub ending : Place → Block → Block
+ending p b = record b { end = p.line }
 
 -- a block ends, with the words of its title
-abbrev pub closed : Place → Progress → Line → Result Progress Refusal
-closed p f ln = cond (bytes_eq (heading_of ln).text f.heading.text) (Ok (record {
-  stage = Outside;
-  heading = f.heading;
-  current = f.current;
-  blocks = slice_set f.blocks f.count (record {
-    caption = f.current.caption;
-    start = f.current.start;
-    body = f.current.body;
-    data_lines = f.current.data_lines;
-    end = p.line;
-  });
-  count = f.count + 1;
-})) (Err (at BrokenFrame p))
+abbrev pub closed : Place → List Block → Line → Heading → Block → Result Progress Refusal
+closed p bs ln h b = cond (bytes_eq (heading_of ln).text h.text) (Ok (record { stage = Outside; ended = bs ++ ending p b ∷ [] })) (Err (at BrokenFrame p))
 
 -- one data line more
-abbrev pub counted : Progress → Progress
-counted f = record {
-  stage = f.stage;
-  heading = f.heading;
-  current = record {
-    caption = f.current.caption;
-    start = f.current.start;
-    body = f.current.body;
-    data_lines = f.current.data_lines + 1;
-    end = f.current.end;
-  };
-  blocks = f.blocks;
-  count = f.count;
-}
+abbrev pub counted : Block → Block
+counted b = record b { data_lines = b.data_lines + 1 }
 
 abbrev pub header : List ℕ
 header = codes "%=SNX 2.02"
@@ -94,32 +71,28 @@ footer = codes "%ENDSNX"
 unfoldable pub is_header : Line → Bool
 is_header ln = begins ln.columns header
 
-abbrev pub outside : Place → Progress → Line → LineKind → Result Progress Refusal
-outside p f ln Bound = Err (at BrokenFrame p)
-outside p f ln Comment = Ok f
-outside p f ln Title = opened p f ln
-outside p f ln End = Err (at BrokenFrame p)
-outside p f ln Data = Err (at BrokenFrame p)
+abbrev pub outside : Place → List Block → Line → LineKind → Result Progress Refusal
+outside p bs ln Bound = Err (at BrokenFrame p)
+outside p bs ln Comment = Ok (record { stage = Outside; ended = bs })
+outside p bs ln Title = opened p bs ln
+outside p bs ln End = Err (at BrokenFrame p)
+outside p bs ln Data = Err (at BrokenFrame p)
 
-abbrev pub inside : Place → Progress → Line → LineKind → Result Progress Refusal
-inside p f ln Bound = Err (at BrokenFrame p)
-inside p f ln Comment = Ok f
-inside p f ln Title = Err (at BrokenFrame p)
-inside p f ln End = closed p f ln
-inside p f ln Data = Ok (counted f)
+abbrev pub inside : Place → List Block → Line → Heading → Block → LineKind → Result Progress Refusal
+inside p bs ln h b Bound = Err (at BrokenFrame p)
+inside p bs ln h b Comment = Ok (record { stage = Inside h b; ended = bs })
+inside p bs ln h b Title = Err (at BrokenFrame p)
+inside p bs ln h b End = closed p bs ln h b
+inside p bs ln h b Data = Ok (record { stage = Inside h (counted b); ended = bs })
 
--- the header is read
-abbrev pub begun : Progress → Progress
-begun f = record { stage = Outside; heading = f.heading; current = f.current; blocks = f.blocks; count = f.count }
-
-abbrev pub by_stage : Place → Progress → Line → LineKind → Stage → Result Progress Refusal
-by_stage p f ln k Start = cond (is_header ln) (Ok (begun f)) (Err (at NoHeaderLine p))
-by_stage p f ln k Outside = outside p f ln k
-by_stage p f ln k Inside = inside p f ln k
+abbrev pub by_stage : Place → List Block → Line → LineKind → Stage → Result Progress Refusal
+by_stage p bs ln k Start = cond (is_header ln) (Ok (record { stage = Outside; ended = bs })) (Err (at NoHeaderLine p))
+by_stage p bs ln k Outside = outside p bs ln k
+by_stage p bs ln k (Inside h b) = inside p bs ln h b k
 
 abbrev pub by_kind : Place → Progress → Line → Option LineKind → Result Progress Refusal
 by_kind p f ln None = Err (at UnknownLineKind p)
-by_kind p f ln (Some k) = by_stage p f ln k f.stage
+by_kind p f ln (Some k) = by_stage p f.ended ln k f.stage
 
 -- a line that is not the last
 abbrev pub stepped : Place → Progress → Line → Result Progress Refusal
@@ -130,18 +103,14 @@ abbrev pub all_taken : List Block → Bool
 all_taken bs =
     has_title SiteId bs && (has_title SolutionEpochs bs && (has_title SolutionEstimate bs && (has_title SolutionApriori bs && has_title SolutionMatrixEstimate bs)))
 
-abbrev pub frame_of : Place → Progress → Frame
-frame_of p f = record { blocks = f.blocks; count = f.count; lines = p.line }
-
-abbrev pub end_by_stage : Place → Progress → Line → Stage → Result Frame Refusal
-end_by_stage p f ln Start = cond (is_header ln) (Err (at BrokenFrame p)) (Err (at NoHeaderLine p))
-end_by_stage p f ln Outside =
-    cond (is_text footer ln.columns) (cond (all_taken (ended_blocks f)) (Ok (frame_of p f)) (Err (at BlockMissing p))) (Err (at BrokenFrame p))
-end_by_stage p f ln Inside = Err (at BrokenFrame p)
+abbrev pub end_by_stage : Place → List Block → Line → Stage → Result Frame Refusal
+end_by_stage p bs ln Start = cond (is_header ln) (Err (at BrokenFrame p)) (Err (at NoHeaderLine p))
+end_by_stage p bs ln Outside = cond (is_text footer ln.columns) (cond (all_taken bs) (Ok (frame_as bs p.line)) (Err (at BlockMissing p))) (Err (at BrokenFrame p))
+end_by_stage p bs ln (Inside h b) = Err (at BrokenFrame p)
 
 abbrev pub end_by_kind : Place → Progress → Line → Option LineKind → Result Frame Refusal
 end_by_kind p f ln None = Err (at UnknownLineKind p)
-end_by_kind p f ln (Some k) = end_by_stage p f ln f.stage
+end_by_kind p f ln (Some k) = end_by_stage p f.ended ln f.stage
 
 -- the last line: the footer, outside a block
 abbrev pub ended : Place → Progress → Line → Result Frame Refusal
@@ -158,12 +127,9 @@ frame p f (l ∷ ls) = cond (fits l)
     (cond (is_nil ls) (ended p f (line_of l)) (continued (stepped p f (line_of l)) (λ g. frame (passed p (length l)) g ls)))
     (Err (at UnfitLine p))
 
-abbrev pub no_block : Block
-no_block = record { caption = record { title = FileReference; form = None }; start = record { byte = 0; line = 0 }; body = record { byte = 0; line = 0 }; data_lines = 0; end = 0 }
-
 -- before the first line
 abbrev pub unread : Progress
-unread = record { stage = Start; heading = headed []; current = no_block; blocks = replicate 26 no_block; count = 0 }
+unread = record { stage = Start; ended = [] }
 
 abbrev pub first_place : Place
 first_place = record { byte = 0; line = 1 }
@@ -172,11 +138,11 @@ first_place = record { byte = 0; line = 1 }
 abbrev pub framed : List ℕ → Result Frame Refusal
 framed cs = cond (nat_lt 100000000 (length cs)) (Err (record { fault = SourceTooLong; line = 0 })) (frame first_place unread (lines cs))
 
--- there is a place for one block more where a block is open
-abbrev pub SpaciousAt : Stage → ℕ → Type 0
-SpaciousAt Start n = n ≤ 26
-SpaciousAt Outside n = n ≤ 26
-SpaciousAt Inside n = n < 26
+-- inside a block, that block has a place among the ended ones, and one data line more is counted
+abbrev pub SpaciousIn : Stage → List Block → Type 0
+SpaciousIn Start bs = Unit {0}
+SpaciousIn Outside bs = Unit {0}
+SpaciousIn (Inside h b) bs = (length bs < 26) × (b.data_lines ≤ 100000000)
 
 abbrev pub Spacious : Progress → Type 0
-Spacious f = SpaciousAt f.stage f.count
+Spacious f = SpaciousIn f.stage f.ended

@@ -1,5 +1,6 @@
 -- What a title line and an end line say after their sign.
 use Rattle.std.specs.Prelude.{ℕ, ◌+◌, Bool, true, false, cond, ◌&&◌, List, [], ◌∷◌, ◌++◌, length, take, drop, Some, None, codes, Option, ◌==◌, slice_index}
+use Rattle.decimals.specs.Number.{blank}
 use Rattle.frame.specs.Lines.{padded}
 use Rattle.frame.specs.Titles.{name_of, titles}
 use Rattle.frame.specs.declared.heading.Additions.{Additions}
@@ -43,13 +44,9 @@ begins xs [] = true
 begins [] (w ∷ ws) = false
 begins (x ∷ xs) (w ∷ ws) = x == w && begins xs ws
 
-abbrev pub all_blank : List ℕ → Bool
-all_blank [] = true
-all_blank (b ∷ bs) = b == 32 && all_blank bs
-
 -- the text is the word, and then blanks
 unfoldable pub is_text : List ℕ → List ℕ → Bool
-is_text w text = begins text w && all_blank (drop (length w) text)
+is_text w text = begins text w && blank (drop (length w) text)
 
 -- the text begins with the word and a blank
 unfoldable pub first_word_is : List ℕ → List ℕ → Bool
@@ -112,7 +109,7 @@ with_form k None = None
 with_form k (Some f) = Some (record { title = k; form = Some f })
 
 abbrev pub caption_adding : Title → List ℕ → Additions → Option Caption
-caption_adding k rest Nothing = cond (all_blank rest) (plain k) None
+caption_adding k rest Nothing = cond (blank rest) (plain k) None
 caption_adding k rest Form = with_form k (form_of rest)
 caption_adding k rest Anything = plain k
 

@@ -1,3 +1,4 @@
+pub mod Blocks
 pub mod DataLines
 pub mod Frames
 pub mod Headings

@@ -1,11 +1,11 @@
 -- The lines of a content: byte 10 ends a line, and the last may lack it.
-use Rattle.std.specs.Prelude.{ℕ, ◌+◌, ◌-◌, Bool, true, false, cond, ◌&&◌, List, [], ◌∷◌, ◌++◌, length, replicate, Some, None, Option, ◌==◌, nat_le, slice_index}
-use Rattle.frame.specs.declared.line.Fetched.{Fetched}
-use Rattle.frame.specs.declared.line.Fetched.TheVariants.{End as NoLine, Unfit, Fit}
+use Rattle.std.specs.Prelude.{ℕ, ◌+◌, ◌-◌, Bool, true, false, cond, ◌&&◌, List, [], ◌∷◌, ◌++◌, length, replicate, Some, None, Ok, Err, Option, Result, ◌==◌, nat_le, slice_index}
 use Rattle.frame.specs.declared.line.Line.{Line}
 use Rattle.frame.specs.declared.line.LineKind.{LineKind}
 use Rattle.frame.specs.declared.line.LineKind.TheVariants.{Bound, Comment, Title, End, Data}
 use Rattle.frame.specs.declared.place.Place.{Place}
+use Rattle.refusals.specs.declared.Fault.{Fault}
+use Rattle.refusals.specs.declared.Fault.TheVariants.{UnfitLine}
 
 -- one more byte at the front of the first line
 abbrev pub glue : ℕ → List (List ℕ) → List (List ℕ)
@@ -40,10 +40,10 @@ padded blank n xs = xs ++ replicate (n - length xs) blank
 abbrev pub line_of : List ℕ → Line
 line_of l = record { columns = padded 32 80 l; len = length l }
 
--- what is read where this is left of the content
-abbrev pub fetched : List ℕ → Fetched
-fetched [] = NoLine
-fetched (c ∷ cs) = cond (fits (first_line (c ∷ cs))) (Fit (line_of (first_line (c ∷ cs)))) Unfit
+-- what is read where this is left of the content: no line at its end, else the first of the lines, which has to fit
+abbrev pub fetched : List ℕ → Result (Option Line) Fault
+fetched [] = Ok None
+fetched (c ∷ cs) = cond (fits (first_line (c ∷ cs))) (Ok (Some (line_of (first_line (c ∷ cs))))) (Err UnfitLine)
 
 -- '%', '*', '+', '-' and ' '
 abbrev pub kind_by : ℕ → Option LineKind

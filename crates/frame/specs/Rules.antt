@@ -1,9 +1,10 @@
 -- The frame of a file in the subject's words: a header line, then comments and blocks, then the footer.
 use Rattle.std.specs.Prelude.{◌≡◌, ℕ, ◌+◌, ◌≤◌, true, false, ◌⊎◌, List, [], ◌∷◌, ◌++◌, map, length, Some, None, Option}
 use Rattle.frame.specs.DataLines.{data_at}
-use Rattle.frame.specs.Frames.{all_taken, first_place, footer, has_title, is_header, no_block}
+use Rattle.frame.specs.Blocks.{frame_as}
+use Rattle.frame.specs.Frames.{all_taken, first_place, footer, has_title, is_header}
 use Rattle.frame.specs.Headings.{caption_of, heading_of, is_text}
-use Rattle.frame.specs.Lines.{fits, kind_of, line_of, lines, padded, passed}
+use Rattle.frame.specs.Lines.{fits, kind_of, line_of, lines, passed}
 use Rattle.frame.specs.declared.data.DataLine.{DataLine}
 use Rattle.frame.specs.declared.heading.Caption.{Caption}
 use Rattle.frame.specs.declared.line.LineKind.{LineKind}
@@ -85,9 +86,6 @@ abbrev pub data_of : Place → List Part → List (List DataLine)
 data_of p [] = []
 data_of p (remark l ∷ xs) = data_of (passed p (length l)) xs
 data_of p (section c title inner end ∷ xs) = data_in (p.line + 1) inner ∷ data_of (passed_all p (title ∷ (inner ++ end ∷ []))) xs
-
-abbrev pub frame_as : List Block → ℕ → Frame
-frame_as bs n = record { blocks = padded no_block 26 bs; count = length bs; lines = n }
 
 -- one exactly where the other
 abbrev pub Exactly : Type 0 → Type 0 → Type 0

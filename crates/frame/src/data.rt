@@ -3,8 +3,8 @@ ghost use Rattle.std.specs.Prelude.{◌≡◌, ◌-◌, ◌≤◌, length, drop}
 ghost use Rattle.frame.specs.DataLines.{Yields, walked, walked_from};
 ghost use Rattle.frame.specs.Lines.{lines};
 
-use crate::line::{Fetched, Line, LineKind, fetch};
-use crate::place::{Place, pass};
+use crate::line::{Line, LineKind, fetch};
+use crate::place::{LineAt, Place};
 use crate::walk::LONGEST;
 use media::Source;
 
@@ -23,23 +23,24 @@ fn next_from<S: Source>(source: &S, place: &mut Place) -> Option<DataLine>
     ensures found { result ≡ (walked place.old (lines (drop place.old.byte (S.content source.now)))).found }
     ensures place { place.new ≡ (walked place.old (lines (drop place.old.byte (S.content source.now)))).place }
 {
-    loop {
-        let Fetched::Fit(line) = fetch(source, place.byte) else {
-            return None;
+    while let Some(line) = fetch(source, place.byte).ok()? {
+        let at = LineAt {
+            place: *place,
+            line,
         };
-        let Some(kind) = line.kind() else {
-            return None;
-        };
-        let number = place.line;
-        match kind {
+        match line.kind()? {
             LineKind::Data => {
-                pass(place, line.len);
-                return Some(DataLine { number, line });
+                *place = at.next();
+                return Some(DataLine {
+                    number: at.place.line,
+                    line,
+                });
             }
-            LineKind::Comment => pass(place, line.len),
+            LineKind::Comment => *place = at.next(),
             _ => return None,
         }
     }
+    None
 }
 
 // The next data line at or after a place that `check` has kept, or that an earlier call has left. At any other place of a

@@ -1,10 +1,11 @@
 // What a title line and an end line say after their sign.
 ghost use Rattle.std.specs.Prelude.{◌≡◌, ℕ, ◌+◌, ◌<◌, ◌≤◌, true, List, [], ◌∷◌, ◌++◌, length};
-ghost use Rattle.frame.specs.Headings.{adds_by, all_blank, begins as starts, caption_adding, caption_of, first_word_is, form_of, headed, heading_of, is_text, spelled, title_among, title_named};
+ghost use Rattle.frame.specs.Headings.{adds_by, caption_adding, caption_of, first_word_is, form_of, headed, heading_of, is_text, spelled, title_named};
 
 use crate::line::Line;
 use crate::title::{TITLES, Title};
 use codes::letters::MatrixKind;
+use decimals::scan::is_blank;
 use triangle::row::Side;
 
 // The words after the sign, one blank apart, padded with blanks; and how long they are before that.
@@ -36,27 +37,28 @@ pub enum Additions {
     Anything,
 }
 
-// One byte more.
-fn add(heading: &mut Heading, b: u8)
-    requires { heading.old.len < 79 }
-    ensures text { (xs : List ℕ) → heading.old ≡ headed xs → heading.new ≡ headed (xs ++ b ∷ []) }
-    ensures len { heading.new.len ≡ heading.old.len + 1 }
-{
-    let at = heading.len;
-    heading.text[at] = b;
-    heading.len = at + 1;
-}
+impl Heading {
+    // One byte more.
+    fn push(&mut self, b: u8)
+        requires { self.old.len < 79 }
+        ensures text { (xs : List ℕ) → self.old ≡ headed xs → self.new ≡ headed (xs ++ b ∷ []) }
+        ensures len { self.new.len ≡ self.old.len + 1 }
+    {
+        self.text[self.len] = b;
+        self.len += 1;
+    }
 
-// One byte of a word more, after a gap or not.
-fn extend(heading: &mut Heading, gap: bool, b: u8)
-    requires { heading.old.len + length (spelled gap b) ≤ 79 }
-    ensures { (xs : List ℕ) → heading.old ≡ headed xs → heading.new ≡ headed (xs ++ spelled gap b) }
-{
-    if gap {
-        add(heading, b' ');
-        add(heading, b);
-    } else {
-        add(heading, b);
+    // One byte of a word more, after a gap or not.
+    fn extend(&mut self, gap: bool, b: u8)
+        requires { self.old.len + length (spelled gap b) ≤ 79 }
+        ensures { (xs : List ℕ) → self.old ≡ headed xs → self.new ≡ headed (xs ++ spelled gap b) }
+    {
+        if gap {
+            self.push(b' ');
+            self.push(b);
+        } else {
+            self.push(b);
+        }
     }
 }
 
@@ -74,7 +76,7 @@ impl Line {
             if *b == b' ' {
                 gap = true;
             } else {
-                extend(&mut heading, gap, *b);
+                heading.extend(gap, *b);
                 gap = false;
             }
         }
@@ -82,105 +84,50 @@ impl Line {
     }
 }
 
-// Whether `text` begins with `word`.
-pub(crate) fn begins(text: &[u8], word: &[u8]) -> bool
-    ensures { result ≡ starts text.now word.now }
-{
-    if text.len() < word.len() {
-        return false;
-    }
-    for i in 0..word.len() {
-        if text[i] != word[i] {
-            return false;
-        }
-    }
-    true
-}
-
-pub(crate) fn all_blank(text: &[u8]) -> bool
-    ensures { result ≡ all_blank text.now }
-{
-    for b in text {
-        if *b != b' ' {
-            return false;
-        }
-    }
-    true
-}
-
 // Whether `text` is `word` and then blanks.
 pub(crate) fn is_text(text: &[u8], word: &[u8]) -> bool
     ensures { result ≡ is_text word.now text.now }
 {
-    begins(text, word) && all_blank(&text[word.len()..])
+    text.strip_prefix(word).is_some_and(|rest| is_blank(rest))
 }
 
 // Whether the first word of `text` is `word`: a blank follows it.
 fn has_first_word(text: &[u8], word: &[u8]) -> bool
     ensures { result ≡ first_word_is word.now text.now }
 {
-    if word.len() >= text.len() {
-        return false;
-    }
-    begins(text, word) && text[word.len()] == b' '
-}
-
-// The first of some titles whose name is the first word of `text`.
-fn title_among(text: &[u8], titles: &[Title]) -> Option<Title>
-    ensures { result ≡ title_among text.now titles.now }
-{
-    for title in titles {
-        if has_first_word(text, title.name()) {
-            return Some(*title);
-        }
-    }
-    None
+    text.strip_prefix(word)
+        .is_some_and(|rest| rest.starts_with(b" "))
 }
 
 // The title whose name is the first word of `text`.
 fn title_named(text: &[u8]) -> Option<Title>
     ensures { result ≡ title_named text.now }
 {
-    title_among(text, &TITLES)
+    TITLES
+        .iter()
+        .find(|title| has_first_word(text, title.name()))
+        .copied()
 }
 
-// The form of a matrix: L or U, then CORR, COVA or INFO.
+// The forms of a matrix, as its title spells them: L or U, then CORR, COVA or INFO.
+const FORMS: [(&[u8], Side, MatrixKind); 6] = [
+    (b"L CORR", Side::Lower, MatrixKind::Correlation),
+    (b"L COVA", Side::Lower, MatrixKind::Covariance),
+    (b"L INFO", Side::Lower, MatrixKind::Information),
+    (b"U CORR", Side::Upper, MatrixKind::Correlation),
+    (b"U COVA", Side::Upper, MatrixKind::Covariance),
+    (b"U INFO", Side::Upper, MatrixKind::Information),
+];
+
+// The form of a matrix.
 fn matrix_form(text: &[u8]) -> Option<MatrixForm>
     ensures { result ≡ form_of text.now }
 {
-    if is_text(text, b"L CORR") {
-        Some(MatrixForm {
-            side: Side::Lower,
-            kind: MatrixKind::Correlation,
-        })
-    } else if is_text(text, b"L COVA") {
-        Some(MatrixForm {
-            side: Side::Lower,
-            kind: MatrixKind::Covariance,
-        })
-    } else if is_text(text, b"L INFO") {
-        Some(MatrixForm {
-            side: Side::Lower,
-            kind: MatrixKind::Information,
-        })
-    } else if is_text(text, b"U CORR") {
-        Some(MatrixForm {
-            side: Side::Upper,
-            kind: MatrixKind::Correlation,
-        })
-    } else if is_text(text, b"U COVA") {
-        Some(MatrixForm {
-            side: Side::Upper,
-            kind: MatrixKind::Covariance,
-        })
-    } else if is_text(text, b"U INFO") {
-        Some(MatrixForm {
-            side: Side::Upper,
-            kind: MatrixKind::Information,
-        })
-    } else {
-        None
-    }
+    let (_, side, kind) = FORMS.iter().find(|(words, _, _)| is_text(text, words))?;
+    Some(MatrixForm {
+        side: *side,
+        kind: *kind,
+    })
 }
 
 impl Title {
@@ -205,20 +152,11 @@ fn caption_with(title: Title, rest: &[u8]) -> Option<Caption>
 {
     match title.additions() {
         Additions::Anything => Some(Caption { title, form: None }),
-        Additions::Nothing => {
-            if all_blank(rest) {
-                Some(Caption { title, form: None })
-            } else {
-                None
-            }
+        Additions::Nothing => is_blank(rest).then_some(Caption { title, form: None }),
+        Additions::Form => {
+            let form = Some(matrix_form(rest)?);
+            Some(Caption { title, form })
         }
-        Additions::Form => match matrix_form(rest) {
-            Some(form) => Some(Caption {
-                title,
-                form: Some(form),
-            }),
-            None => None,
-        },
     }
 }
 
@@ -227,9 +165,7 @@ impl Heading {
     pub fn caption(&self) -> Option<Caption>
         ensures { result ≡ caption_of self.now.text }
     {
-        match title_named(&self.text) {
-            Some(title) => caption_with(title, &self.text[title.name().len() + 1..]),
-            None => None,
-        }
+        let title = title_named(&self.text)?;
+        caption_with(title, &self.text[title.name().len() + 1..])
     }
 }

@@ -3,6 +3,7 @@ ghost use Rattle.frame.specs.Lines.{all_printable, fetched, kind_by, kind_of};
 ghost use Rattle.std.specs.Prelude.{◌≡◌, drop};
 
 use media::Source;
+use refusals::Fault;
 
 // A line as its 80 columns, padded with blanks, and its length before that.
 #[derive(Clone, Copy)]
@@ -11,16 +12,8 @@ pub struct Line {
     pub len: usize,
 }
 
-// What stands at a place: nothing, a line that is too long or holds a byte outside 32 to 126, or a line.
-#[derive(Clone, Copy)]
-pub enum Fetched {
-    End,
-    Unfit,
-    Fit(Line),
-}
-
 // The kinds of line, by their first character.
-#[derive(Clone, Copy)]
+#[derive(Clone, Copy, PartialEq, Eq)]
 pub enum LineKind {
     // '%': the header and the footer
     Bound,
@@ -46,29 +39,31 @@ pub fn all_printable(line: &[u8]) -> bool
     true
 }
 
-// The line that begins at byte `at`; none at or past the source's length.
-pub fn fetch<S: Source>(source: &S, at: usize) -> Fetched
+// The line that begins at byte `at`; none at or past the source's length. A line that is too long, or holds a byte outside 32
+// to 126, is refused.
+pub fn fetch<S: Source>(source: &S, at: usize) -> Result<Option<Line>, Fault>
     ensures { result ≡ fetched (drop at (S.content source.now)) }
 {
     if at >= source.length() {
-        return Fetched::End;
+        return Ok(None);
     }
     let mut columns = [b' '; 80];
+    // counted by hand, since a source gives its bytes by place alone
     let mut len = 0;
     while let Some(b) = source.byte(at + len) {
-        if b == 10 {
+        if b == b'\n' {
             break;
         }
         if len == 80 {
-            return Fetched::Unfit;
+            return Err(Fault::UnfitLine);
         }
         columns[len] = b;
         len += 1;
     }
-    if all_printable(&columns[0..len]) {
-        Fetched::Fit(Line { columns, len })
+    if all_printable(&columns[..len]) {
+        Ok(Some(Line { columns, len }))
     } else {
-        Fetched::Unfit
+        Err(Fault::UnfitLine)
     }
 }
 

@@ -2,6 +2,7 @@
 ghost use Rattle.std.specs.Prelude.{◌≡◌, ◌+◌, ◌≤◌, drop};
 ghost use Rattle.frame.specs.Lines.{passed, is_nil};
 
+use crate::line::Line;
 use media::Source;
 
 // The byte at which a line begins, and that line's number, counted from 1.
@@ -11,13 +12,24 @@ pub struct Place {
     pub line: u32,
 }
 
-// Moves past a line of `len` bytes and its end.
-pub(crate) fn pass(place: &mut Place, len: usize)
-    requires { (place.old.byte + len ≤ 100000000) × (place.old.line ≤ place.old.byte + 1) }
-    ensures { place.new ≡ passed place.old len }
-{
-    place.byte += len + 1;
-    place.line += 1;
+// A line of a source that is not too long, and the place at which it was read.
+#[derive(Clone, Copy)]
+pub(crate) struct LineAt {
+    pub(crate) place: Place,
+    pub(crate) line: Line,
+    ghost within: { (place.byte + line.len ≤ 100000000) × (place.line ≤ place.byte + 1) },
+}
+
+impl LineAt {
+    // The place of the line after it.
+    pub(crate) fn next(&self) -> Place
+        ensures { result ≡ passed self.now.place self.now.line.len }
+    {
+        Place {
+            byte: self.place.byte + self.line.len + 1,
+            line: self.place.line + 1,
+        }
+    }
 }
 
 // A look ahead: it may move the place, which is put back when it is dropped.
@@ -41,18 +53,13 @@ impl Drop for LookAhead<'_> {
     }
 }
 
-// Whether the line of `len` bytes at the place is the last of the source.
-pub(crate) fn is_last<S: Source>(source: &S, place: &mut Place, len: usize) -> bool
-    requires { (place.old.byte + len ≤ 100000000) × (place.old.line ≤ place.old.byte + 1) }
+// Whether the line is the last of the source: the place is moved past it for the look, and put back.
+pub(crate) fn is_last<S: Source>(source: &S, place: &mut Place, at: &LineAt) -> bool
     ensures back { place.new ≡ place.old }
-    ensures last { result ≡ is_nil (drop (place.old.byte + len + 1) (S.content source.now)) }
+    ensures last { result ≡ is_nil (drop (at.now.place.byte + at.now.line.len + 1) (S.content source.now)) }
 {
-    let byte = place.byte;
-    let line = place.line;
+    let Place { byte, line } = *place;
     let ahead = LookAhead { place, byte, line };
-    pass(ahead.place, len);
-    match source.byte(ahead.place.byte) {
-        None => true,
-        Some(_) => false,
-    }
+    *ahead.place = at.next();
+    source.byte(ahead.place.byte).is_none()
 }

@@ -3,7 +3,7 @@ ghost use Rattle.std.specs.Prelude.{◌≡◌, ◌<◌, ◌≤◌, length};
 ghost use Rattle.frame.specs.Titles.{name_of, place_of};
 
 // The 26 titles that a block may have, in the order of the format.
-#[derive(Clone, Copy)]
+#[derive(Clone, Copy, PartialEq, Eq)]
 pub enum Title {
     FileReference,
     FileComment,

@@ -1,15 +1,18 @@
 // The frame of a file: header, blocks and footer, line by line.
-ghost use Rattle.std.specs.Prelude.{◌≡◌, ℕ, ◌+◌, ◌<◌, ◌≤◌, Ok};
-ghost use Rattle.frame.specs.Frames.{Spacious, all_taken, at, closed, ended, framed, has_title, is_header, opened, outcome, stepped, unread};
+ghost use Rattle.std.specs.Prelude.{◌≡◌, ℕ, ◌+◌, ◌<◌, ◌≤◌, List, [], ◌∷◌, ◌++◌, Ok, length};
+ghost use Rattle.frame.specs.Blocks.{frame_as};
+ghost use Rattle.frame.specs.Frames.{Spacious, all_taken, at, block_of, ended, framed, has_title, is_header, opened, outcome, stepped, unread};
 ghost use Rattle.frame.specs.Rules.{Exactly, Right};
+ghost use Rattle.std.specs.Option.{option_copied};
 ghost use Rattle.std.specs.Str.{bytes_eq};
 
-use crate::heading::{Caption, Heading, begins, is_text};
-use crate::line::{Fetched, Line, LineKind, fetch};
-use crate::place::{Place, is_last, pass};
+use crate::heading::{Caption, Heading, is_text};
+use crate::line::{Line, LineKind, fetch};
+use crate::place::{LineAt, Place, is_last};
 use crate::title::Title;
 use media::Source;
 use refusals::{Fault, Refusal};
+use std::marker::Model;
 
 // The most bytes that a source may have.
 pub const LONGEST: usize = 100_000_000;
@@ -33,23 +36,6 @@ pub struct Frame {
     pub lines: u32,
 }
 
-#[derive(Clone, Copy)]
-pub enum Stage {
-    Start,
-    Outside,
-    Inside,
-}
-
-// What the lines so far came to: the blocks that are ended, and, inside a block, that block and the words of its title.
-#[derive(Clone, Copy)]
-pub struct Progress {
-    pub stage: Stage,
-    pub heading: Heading,
-    pub current: Block,
-    pub blocks: [Block; 26],
-    pub count: usize,
-}
-
 const NO_BLOCK: Block = Block {
     caption: Caption {
         title: Title::FileReference,
@@ -61,19 +47,83 @@ const NO_BLOCK: Block = Block {
     end: 0,
 };
 
-// Before the first line.
-fn fresh() -> Progress
-    ensures { result ≡ unread }
-{
-    Progress {
-        stage: Stage::Start,
-        heading: Heading {
-            text: [b' '; 79],
-            len: 0,
-        },
-        current: NO_BLOCK,
-        blocks: [NO_BLOCK; 26],
-        count: 0,
+// The blocks that are ended, in the file's order: a list in fixed memory.
+#[derive(Drop)]
+struct Ended {
+    blocks: [Block; 26],
+    count: usize,
+}
+
+impl Model for Ended {
+    ghost use Rattle.std.specs.Prelude.{◌≡◌, ◌≤◌, List, take};
+    ghost use Rattle.frame.specs.Blocks.{no_block};
+    ghost use Rattle.frame.specs.Lines.{padded};
+    ghost use Rattle.frame.specs.declared.walk.Block.{Block};
+
+    ghost Value = { List Block };
+
+    ghost view = { λ e. take e.count e.blocks };
+
+    ghost invariant = { λ e. (e.count ≤ 26) × (e.blocks ≡ padded no_block 26 (take e.count e.blocks)) };
+}
+
+impl Ended {
+    fn new() -> Ended
+        ensures { result ≡ [] }
+    {
+        Ended {
+            blocks: [NO_BLOCK; 26],
+            count: 0,
+        }
+    }
+
+    fn as_slice(&self) -> &[Block]
+        ensures { result.now ≡ self.now }
+    {
+        &self.blocks[..self.count]
+    }
+
+    fn push(&mut self, block: Block)
+        requires { length self.old < 26 }
+        ensures { self.new ≡ self.old ++ block ∷ [] }
+    {
+        self.blocks[self.count] = block;
+        self.count += 1;
+    }
+
+    // The frame that has these blocks.
+    fn frame(&self, lines: u32) -> Frame
+        ensures { result ≡ frame_as self.now lines }
+    {
+        Frame {
+            blocks: self.blocks,
+            count: self.count,
+            lines,
+        }
+    }
+}
+
+// Where a line stands: first in the file, outside a block, or inside one, which has these words in its title.
+#[derive(Clone, Copy)]
+enum Stage {
+    Start,
+    Outside,
+    Inside { heading: Heading, block: Block },
+}
+
+// What the lines so far came to.
+#[derive(Drop)]
+struct Progress {
+    stage: Stage,
+    ended: Ended,
+}
+
+impl LineAt {
+    // The refusal of this line.
+    fn refuse(&self, fault: Fault) -> Refusal
+        ensures { result ≡ at fault self.now.place }
+    {
+        self.place.refuse(fault)
     }
 }
 
@@ -89,106 +139,18 @@ impl Place {
     }
 }
 
+// The block with this title; the first, where there are several.
+pub fn block_of(blocks: &[Block], title: Title) -> Option<&Block>
+    ensures { option_copied result ≡ block_of title blocks.now }
+{
+    blocks.iter().find(|block| block.caption.title == title)
+}
+
 // Whether one of the blocks has this title.
 fn has_title(blocks: &[Block], title: Title) -> bool
     ensures { result ≡ has_title title blocks.now }
 {
-    for block in blocks {
-        if block.caption.title.place() == title.place() {
-            return true;
-        }
-    }
-    false
-}
-
-// The title line of a block.
-fn open_block(progress: &mut Progress, place: Place, line: &Line) -> Result<(), Refusal>
-    requires { (progress.old.count ≤ 26) × ((place.byte + line.now.len ≤ 100000000) × (place.line ≤ place.byte + 1)) }
-    ensures progress { outcome result progress.new ≡ opened place progress.old line.now }
-{
-    let heading = line.heading();
-    let Some(caption) = heading.caption() else {
-        return Err(place.refuse(Fault::WrongTitle));
-    };
-    if has_title(&progress.blocks[0..progress.count], caption.title) {
-        return Err(place.refuse(Fault::TitleTwice));
-    }
-    progress.stage = Stage::Inside;
-    progress.heading = heading;
-    let mut body = place;
-    pass(&mut body, line.len);
-    progress.current = Block {
-        caption,
-        start: place,
-        body,
-        data_lines: 0,
-        end: 0,
-    };
-    Ok(())
-}
-
-// Whether two headings have the same words.
-fn same_words(a: &Heading, b: &Heading) -> bool
-    ensures { result ≡ bytes_eq a.now.text b.now.text }
-{
-    a.text[..] == b.text[..]
-}
-
-// The end line of a block.
-fn close_block(progress: &mut Progress, place: Place, line: &Line) -> Result<(), Refusal>
-    requires { progress.old.count < 26 }
-    ensures progress { outcome result progress.new ≡ closed place progress.old line.now }
-{
-    let heading = line.heading();
-    if !same_words(&heading, &progress.heading) {
-        return Err(place.refuse(Fault::BrokenFrame));
-    }
-    let mut block = progress.current;
-    block.end = place.line;
-    progress.blocks[progress.count] = block;
-    progress.count += 1;
-    progress.stage = Stage::Outside;
-    Ok(())
-}
-
-// A line that is not the last.
-fn step(progress: &mut Progress, place: Place, line: &Line) -> Result<(), Refusal>
-    requires room { (progress.old.current.data_lines ≤ 100000000) × (Spacious progress.old) }
-    requires place { (place.byte + line.now.len ≤ 100000000) × (place.line ≤ place.byte + 1) }
-    ensures progress { outcome result progress.new ≡ stepped place progress.old line.now }
-{
-    let Some(kind) = line.kind() else {
-        return Err(place.refuse(Fault::UnknownLineKind));
-    };
-    match progress.stage {
-        Stage::Start => {
-            if !is_header(line) {
-                return Err(place.refuse(Fault::NoHeaderLine));
-            }
-            progress.stage = Stage::Outside;
-            Ok(())
-        }
-        Stage::Outside => match kind {
-            LineKind::Comment => Ok(()),
-            LineKind::Title => open_block(progress, place, line),
-            _ => Err(place.refuse(Fault::BrokenFrame)),
-        },
-        Stage::Inside => match kind {
-            LineKind::Comment => Ok(()),
-            LineKind::Data => {
-                progress.current.data_lines += 1;
-                Ok(())
-            }
-            LineKind::End => close_block(progress, place, line),
-            _ => Err(place.refuse(Fault::BrokenFrame)),
-        },
-    }
-}
-
-fn is_header(line: &Line) -> bool
-    ensures { result ≡ is_header line.now }
-{
-    begins(&line.columns, b"%=SNX 2.02")
+    block_of(blocks, title).is_some()
 }
 
 // Whether each block that the register takes up is there.
@@ -202,36 +164,99 @@ fn all_taken(blocks: &[Block]) -> bool
         && has_title(blocks, Title::SolutionMatrixEstimate)
 }
 
-// The last line.
-fn end(progress: &Progress, place: Place, line: &Line) -> Result<Frame, Refusal>
-    requires { progress.now.count ≤ 26 }
-    ensures { result ≡ ended place progress.now line.now }
+// Whether two headings have the same words.
+fn same_words(a: &Heading, b: &Heading) -> bool
+    ensures { result ≡ bytes_eq a.now.text b.now.text }
 {
-    let Some(_) = line.kind() else {
-        return Err(place.refuse(Fault::UnknownLineKind));
-    };
-    match progress.stage {
-        Stage::Start => {
-            if is_header(line) {
-                Err(place.refuse(Fault::BrokenFrame))
-            } else {
-                Err(place.refuse(Fault::NoHeaderLine))
-            }
+    a.text == b.text
+}
+
+fn is_header(line: &Line) -> bool
+    ensures { result ≡ is_header line.now }
+{
+    line.columns.starts_with(b"%=SNX 2.02")
+}
+
+impl Progress {
+    // Before the first line.
+    fn new() -> Progress
+        ensures { result ≡ unread }
+    {
+        Progress {
+            stage: Stage::Start,
+            ended: Ended::new(),
         }
-        Stage::Outside => {
-            if !is_text(&line.columns, b"%ENDSNX") {
-                return Err(place.refuse(Fault::BrokenFrame));
-            }
-            if !all_taken(&progress.blocks[0..progress.count]) {
-                return Err(place.refuse(Fault::BlockMissing));
-            }
-            Ok(Frame {
-                blocks: progress.blocks,
-                count: progress.count,
-                lines: place.line,
-            })
+    }
+
+    // The title line of a block.
+    fn open(&mut self, at: &LineAt) -> Result<(), Refusal>
+        ensures progress { outcome result self.new ≡ opened at.now.place self.old.ended at.now.line }
+    {
+        let heading = at.line.heading();
+        let caption = heading.caption().ok_or(at.refuse(Fault::WrongTitle))?;
+        if has_title(self.ended.as_slice(), caption.title) {
+            return Err(at.refuse(Fault::TitleTwice));
         }
-        Stage::Inside => Err(place.refuse(Fault::BrokenFrame)),
+        let block = Block {
+            caption,
+            start: at.place,
+            body: at.next(),
+            data_lines: 0,
+            end: 0,
+        };
+        self.stage = Stage::Inside { heading, block };
+        Ok(())
+    }
+
+    // A line that is not the last.
+    fn step(&mut self, at: &LineAt) -> Result<(), Refusal>
+        requires { Spacious self.old }
+        ensures progress { outcome result self.new ≡ stepped at.now.place self.old at.now.line }
+    {
+        let kind = at.line.kind().ok_or(at.refuse(Fault::UnknownLineKind))?;
+        match (&mut self.stage, kind) {
+            (Stage::Start, _) => {
+                if !is_header(&at.line) {
+                    return Err(at.refuse(Fault::NoHeaderLine));
+                }
+                self.stage = Stage::Outside;
+                Ok(())
+            }
+            (_, LineKind::Comment) => Ok(()),
+            (Stage::Outside, LineKind::Title) => self.open(at),
+            (Stage::Inside { block, .. }, LineKind::Data) => {
+                block.data_lines += 1;
+                Ok(())
+            }
+            (Stage::Inside { heading, block }, LineKind::End) => {
+                if !same_words(&at.line.heading(), heading) {
+                    return Err(at.refuse(Fault::BrokenFrame));
+                }
+                block.end = at.place.line;
+                self.ended.push(*block);
+                self.stage = Stage::Outside;
+                Ok(())
+            }
+            _ => Err(at.refuse(Fault::BrokenFrame)),
+        }
+    }
+
+    // The last line.
+    fn end(&self, at: &LineAt) -> Result<Frame, Refusal>
+        ensures { result ≡ ended at.now.place self.now at.now.line }
+    {
+        at.line.kind().ok_or(at.refuse(Fault::UnknownLineKind))?;
+        match self.stage {
+            Stage::Start if !is_header(&at.line) => Err(at.refuse(Fault::NoHeaderLine)),
+            Stage::Outside if is_text(&at.line.columns, b"%ENDSNX") => {
+                if all_taken(self.ended.as_slice()) {
+                    Ok(self.ended.frame(at.place.line))
+                } else {
+                    Err(at.refuse(Fault::BlockMissing))
+                }
+            }
+            _ => Err(at.refuse(Fault::BrokenFrame)),
+        }
     }
 }
 
@@ -246,20 +271,16 @@ fn walk_lines<S: Source>(source: &S) -> Result<Frame, Refusal>
         });
     }
     let mut place = Place { byte: 0, line: 1 };
-    let mut progress = fresh();
-    loop {
-        match fetch(source, place.byte) {
-            Fetched::End => return Err(place.refuse(Fault::NoHeaderLine)),
-            Fetched::Unfit => return Err(place.refuse(Fault::UnfitLine)),
-            Fetched::Fit(line) => {
-                if is_last(source, &mut place, line.len) {
-                    return end(&progress, place, &line);
-                }
-                step(&mut progress, place, &line)?;
-                pass(&mut place, line.len);
-            }
+    let mut progress = Progress::new();
+    while let Some(line) = fetch(source, place.byte).map_err(|fault| place.refuse(fault))? {
+        let at = LineAt { place, line };
+        if is_last(source, &mut place, &at) {
+            return progress.end(&at);
         }
+        progress.step(&at)?;
+        place = at.next();
     }
+    Err(place.refuse(Fault::NoHeaderLine))
 }
 
 // The blocks of a source in its order, or the first fault of its frame: line by line the checks of a line, and at the footer

@@ -1,15 +1,12 @@
-use Rattle.std.proofs.Common.{rules}
-use Rattle.frame.specs.Headings.{first_word_is}
-use Rattle.frame.proofs.Words.{first_word_long}
+use Rattle.std.proofs.Common.{Bool, ◌&&◌, [], ◌∷◌, length, ap, ◌∙◌, rules}
+use Rattle.frame.specs.Headings.{begins, first_word_is}
+use Rattle.frame.proofs.Words.{blank_first, stripped}
 use Rattle.frame.proofs.heading.has_first_word.Goals as goal
 
-pub returns-then-word-text : goal.returns-then-word-text
-returns-then-word-text c = first_word_long _ _ c.if-word-text.true
-
-pub returns-then-begins : goal.returns-then-begins
+pub returns : goal.returns
 unfolding first_word_is
-returns-then-begins c = search rules
-
-pub returns-else-begins : goal.returns-else-begins
-unfolding first_word_is
-returns-else-begins c = search rules
+returns c =
+    let text = c.args.text.now in
+    let word = c.args.word.now in
+    stripped text word (λ rest. begins rest (32 ∷ [])) _ _ c.strip_prefix.ensures.cases (search rules)
+    ∙ ap (λ (b : Bool). begins text word && b) (blank_first (length word) text)

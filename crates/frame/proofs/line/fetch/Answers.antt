@@ -38,12 +38,10 @@ pub returns-then-all_printable : goal.returns-then-all_printable
 returns-then-all_printable g c =
     let cs = g.S.Source.content c.args.source.now in
     let h : c.args.at < length cs = omega arith in
-    let z : c.loop-b.len - 0 ≡ c.loop-b.len = omega arith in
-    fetched-fit cs c.args.at c.loop-b.len _ h c.loop-b.invariant (ends g (goal.at.returns-then-all_printable g c).Joined-byte) (sym (c.if-all_printable.ensures ∙ ap (λ (n : ℕ). all_printable (take n c.loop-b.columns)) z))
+    fetched-fit cs c.args.at c.loop-b.len _ h c.loop-b.invariant (ends g (goal.at.returns-then-all_printable g c).Joined-byte) (sym c.if-all_printable.ensures)
 
 pub returns-else-all_printable : goal.returns-else-all_printable
 returns-else-all_printable g c =
     let cs = g.S.Source.content c.args.source.now in
     let h : c.args.at < length cs = omega arith in
-    let z : c.loop-b.len - 0 ≡ c.loop-b.len = omega arith in
-    fetched_unfit cs c.args.at c.loop-b.len _ h c.loop-b.invariant (ends g (goal.at.returns-else-all_printable g c).Joined-byte) (sym (c.if-all_printable.ensures ∙ ap (λ (n : ℕ). all_printable (take n c.loop-b.columns)) z))
+    fetched_unfit cs c.args.at c.loop-b.len _ h c.loop-b.invariant (ends g (goal.at.returns-else-all_printable g c).Joined-byte) (sym c.if-all_printable.ensures)

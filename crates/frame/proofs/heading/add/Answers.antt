@@ -1,6 +1,0 @@
-use Rattle.frame.proofs.Squeezes.{headed_more}
-use Rattle.frame.proofs.heading.add.Goals as goal
-use Rattle.std.proofs.Common.{refl}
-
-pub returns : goal.returns
-returns c = record { text = λ xs e. headed_more c.args.heading.now c.args.b xs c.requires e; len = refl }
