@@ -19,12 +19,6 @@ by_letter at [] = Err WrongText
 by_letter at (c ∷ []) = at c
 by_letter at (c ∷ (d ∷ ds)) = Err WrongText
 
--- the same, where a relation says what a letter may give
-abbrev pub ReadsCode : {A : Type 0} → (ℕ → Result A Fault → Type 0) → List ℕ → Result A Fault → Type 0
-ReadsCode gives [] r = r ≡ Err WrongText
-ReadsCode gives (c ∷ []) r = gives c r
-ReadsCode gives (c ∷ (d ∷ ds)) r = r ≡ Err WrongText
-
 -- C D L M P R
 abbrev pub technique_letter : Technique → ℕ
 technique_letter Combined = 67

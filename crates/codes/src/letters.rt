@@ -1,6 +1,6 @@
 // Codes of one letter, and the kinds of a matrix: read and written.
 ghost use Rattle.std.specs.Prelude.{◌≡◌};
-ghost use Rattle.codes.specs.Codes.{ReadsCode, technique_letter, constraint_digit, contents_letter, read_contents, read_matrix_kind, matrix_kind_text};
+ghost use Rattle.codes.specs.Codes.{by_letter, technique_letter, constraint_digit, contents_letter, read_contents, read_matrix_kind, matrix_kind_text};
 
 use refusals::Fault;
 
@@ -42,6 +42,16 @@ pub enum MatrixKind {
     Information,
 }
 
+// A code of one letter. What a letter gives is one answer, which says what the field of that one column is read as.
+pub trait Code: TryFrom<u8, Error = Fault> {
+    ghost use Rattle.std.specs.Prelude.{◌≡◌, ℕ, Result};
+    ghost use Rattle.refusals.specs.declared.Fault.{Fault};
+
+    ghost decode: { ℕ → Result Self Fault };
+
+    ghost decodes: { (letter : ℕ) (r : Result Self Fault) → Self.try_from_gives letter r → r ≡ decode letter };
+}
+
 impl TryFrom<u8> for Technique {
     type Error = Fault;
 
@@ -63,6 +73,14 @@ impl TryFrom<u8> for Technique {
     }
 }
 
+impl Code for Technique {
+    ghost use Rattle.codes.specs.Codes.{technique_at};
+
+    ghost decode = { technique_at };
+
+    ghost decodes = { λ letter r e. e };
+}
+
 impl TryFrom<u8> for Constraint {
     type Error = Fault;
 
@@ -79,6 +97,14 @@ impl TryFrom<u8> for Constraint {
             _ => Err(Fault::WrongText),
         }
     }
+}
+
+impl Code for Constraint {
+    ghost use Rattle.codes.specs.Codes.{constraint_at};
+
+    ghost decode = { constraint_at };
+
+    ghost decodes = { λ letter r e. e };
 }
 
 impl TryFrom<u8> for Contents {
@@ -102,9 +128,17 @@ impl TryFrom<u8> for Contents {
     }
 }
 
+impl Code for Contents {
+    ghost use Rattle.codes.specs.Codes.{contents_at};
+
+    ghost decode = { contents_at };
+
+    ghost decodes = { λ letter r e. e };
+}
+
 // A field of one column: the technique, the constraint or the contents of its letter.
-pub fn read_code<T: TryFrom<u8, Error = Fault>>(text: &[u8]) -> Result<T, Fault>
-    ensures { ReadsCode T.try_from_gives text.now result }
+pub fn read_code<T: Code>(text: &[u8]) -> Result<T, Fault>
+    ensures { result ≡ by_letter T.decode text.now }
 {
     match text {
         [letter] => T::try_from(*letter),

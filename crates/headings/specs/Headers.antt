@@ -8,8 +8,6 @@ use Rattle.fields.specs.Count.{read_count}
 use Rattle.fields.specs.Epoch.{read_moment}
 use Rattle.fields.specs.declared.epochs.Moment.{Moment}
 use Rattle.headings.specs.Lines.{and_then}
-use Rattle.headings.specs.declared.headers.CountColumns.{CountColumns}
-use Rattle.headings.specs.declared.headers.CountColumns.TheVariants.{Read, Ignored}
 use Rattle.headings.specs.declared.headers.Header.{Header}
 
 -- blank, agency of the file, blank, creation, blank, agency of the data
@@ -50,27 +48,23 @@ check_letters bs =
     and_then (check_letter (columns 10 12 bs)) (λ _.
     check_blank (columns 12 13 bs)))))))
 
--- a count that is not looked at is taken for 0
-abbrev pub read_counted : CountColumns → List ℕ → Result ℕ Fault
-read_counted Read bs = read_count bs
-read_counted Ignored bs = Ok 0
-
--- columns count from 0
-abbrev pub read_header_by : CountColumns → List ℕ → Result (Header × ℕ) Fault
-read_header_by how line =
+-- with what the count's columns say; columns count from 0
+abbrev pub read_header_by : {C : Type 0} → Result C Fault → List ℕ → Result (Header × C) Fault
+read_header_by counted line =
     and_then (read_agencies (columns 10 31 line)) (λ agencies.
     and_then (read_period (columns 31 57 line)) (λ period.
     and_then (check_blank (columns 57 58 line)) (λ _.
     and_then (read_technique (columns 58 59 line)) (λ technique.
     and_then (check_blank (columns 59 60 line)) (λ _.
-    and_then (read_counted how (columns 60 65 line)) (λ count.
+    and_then counted (λ count.
     and_then (check_blank (columns 65 66 line)) (λ _.
     and_then (read_constraint (columns 66 67 line)) (λ constraint.
     and_then (check_letters (columns 67 80 line)) (λ _.
     Ok (record { file_agency = agencies.0; created = agencies.1; data_agency = agencies.2; start = period.0; end = period.1; technique = technique; constraint = constraint }, count))))))))))
 
 abbrev pub read_header : List ℕ → Result (Header × ℕ) Fault
-read_header line = read_header_by Read line
+read_header line = read_header_by (read_count (columns 60 65 line)) line
 
+-- whatever stands in the columns of the count
 abbrev pub read_edited_header : List ℕ → Result Header Fault
-read_edited_header line = and_then (read_header_by Ignored line) (λ h. Ok h.0)
+read_edited_header line = and_then (read_header_by (Ok (tt {0})) line) (λ h. Ok h.0)

@@ -38,8 +38,7 @@ fn read_element(columns: &[u8]) -> Result<Option<Number>, Fault>
     if is_blank(columns) {
         return Ok(None);
     }
-    let value = read_number(columns)?;
-    Ok(Some(value))
+    read_number(columns).map(Some)
 }
 
 // Three elements, each with a blank column before it, and blanks to the end: 68 columns.

@@ -1,12 +1,10 @@
 // The head of a solution: what its header line says, and what its matrix holds.
-ghost use Rattle.std.specs.Prelude.{◌≡◌, length, None};
-ghost use Rattle.headings.specs.Headers.{read_agencies, read_period, check_letter, check_letters, read_counted, read_header_by, read_header, read_edited_header};
+ghost use Rattle.std.specs.Prelude.{◌≡◌, length};
+ghost use Rattle.headings.specs.Headers.{read_agencies, read_period, check_letter, check_letters, read_header_by, read_header, read_edited_header};
 ghost use Rattle.codes.specs.Codes.{place_letter};
 ghost use Rattle.headings.specs.Copies.{agencies_text, period_text, letters_text, header_text};
 
-use codes::letters::{
-    Constraint, Contents, MatrixKind, Technique, read_constraint, read_contents, read_technique,
-};
+use codes::letters::{Constraint, Contents, MatrixKind, Technique, read_code, read_contents};
 use codes::texts::{check_blank, read_text};
 use fields::counts::{read_count, write_count};
 use fields::epochs::{Moment, read_moment, write_moment};
@@ -28,13 +26,6 @@ pub struct Header {
 pub struct Head {
     pub header: Header,
     pub kind: MatrixKind,
-}
-
-// Whether a header's count is read, or its columns are not looked at.
-#[derive(Clone, Copy)]
-pub enum CountColumns {
-    Read,
-    Ignored,
 }
 
 // The agency of the file, its creation and the agency of the data, each with a blank column before it.
@@ -74,40 +65,29 @@ fn check_letter(columns: &[u8]) -> Result<(), Fault>
 }
 
 // The six places of the contents letters, which are held to their rule and not kept, and a blank column after them.
+#[tactic(auto, using(crate::proofs::Letters::letters_by_places, crate::proofs::Letters::places_more, crate::proofs::Letters::places_none))]
 fn check_letters(columns: &[u8]) -> Result<(), Fault>
     requires { length columns.now ≡ 13 }
     ensures { result ≡ check_letters columns.now }
 {
-    check_letter(&columns[0..2])?;
-    check_letter(&columns[2..4])?;
-    check_letter(&columns[4..6])?;
-    check_letter(&columns[6..8])?;
-    check_letter(&columns[8..10])?;
-    check_letter(&columns[10..12])?;
+    for place in columns[..12].chunks_exact(2) {
+        check_letter(place)?;
+    }
     check_blank(&columns[12..13])
 }
 
-// The count, or 0 where it is not looked at.
-fn read_counted(how: CountColumns, columns: &[u8]) -> Result<u32, Fault>
-    ensures { result ≡ read_counted how columns.now }
-{
-    match how {
-        CountColumns::Read => read_count(columns),
-        CountColumns::Ignored => Ok(0),
-    }
-}
-
-fn read_header_by(how: CountColumns, line: &[u8; 80]) -> Result<(Header, u32), Fault>
-    ensures { result ≡ read_header_by how line.now }
+// A header line's fields, and its count as the caller reads it: a fault there comes in the order of the columns.
+fn read_header_by<C: Copy>(count: Result<C, Fault>, line: &[u8; 80]) -> Result<(Header, C), Fault>
+    ensures { result ≡ read_header_by count line.now }
 {
     let (file_agency, created, data_agency) = read_agencies(&line[10..31])?;
     let (start, end) = read_period(&line[31..57])?;
     check_blank(&line[57..58])?;
-    let technique = read_technique(&line[58..59])?;
+    let technique = read_code(&line[58..59])?;
     check_blank(&line[59..60])?;
-    let count = read_counted(how, &line[60..65])?;
+    let count = count?;
     check_blank(&line[65..66])?;
-    let constraint = read_constraint(&line[66..67])?;
+    let constraint = read_code(&line[66..67])?;
     check_letters(&line[67..80])?;
     let header = Header {
         file_agency,
@@ -125,14 +105,14 @@ fn read_header_by(how: CountColumns, line: &[u8; 80]) -> Result<(Header, u32), F
 pub fn read_header(line: &[u8; 80]) -> Result<(Header, u32), Fault>
     ensures { result ≡ read_header line.now }
 {
-    read_header_by(CountColumns::Read, line)
+    read_header_by(read_count(&line[60..65]), line)
 }
 
 // The header alone, whatever stands in the columns of the count.
 pub fn read_edited_header(line: &[u8; 80]) -> Result<Header, Fault>
     ensures { result ≡ read_edited_header line.now }
 {
-    let (header, _) = read_header_by(CountColumns::Ignored, line)?;
+    let (header, ()) = read_header_by(Ok(()), line)?;
     Ok(header)
 }
 
@@ -158,22 +138,17 @@ fn write_period(h: &Header) -> [u8; 26]
 fn place_letter(place: Option<Contents>) -> u8
     ensures { result ≡ place_letter place }
 {
-    match place {
-        Some(c) => c.letter(),
-        None => b' ',
-    }
+    place.map_or(b' ', Contents::letter)
 }
 
+#[tactic(auto, using(crate::proofs::Letters::letters_more))]
 fn write_letters(letters: &[Option<Contents>; 6]) -> [u8; 13]
     ensures { result ≡ letters_text letters.now }
 {
     let mut out = [b' '; 13];
-    out[1] = place_letter(letters[0]);
-    out[3] = place_letter(letters[1]);
-    out[5] = place_letter(letters[2]);
-    out[7] = place_letter(letters[3]);
-    out[9] = place_letter(letters[4]);
-    out[11] = place_letter(letters[5]);
+    for (i, letter) in letters.iter().enumerate() {
+        out[2 * i + 1] = place_letter(*letter);
+    }
     out
 }
 
