@@ -4,7 +4,7 @@ use native.Mathlib.Nat.{max_comm, min_comm}
 use Rattle.std.proofs.lemmas.Bool.{and_from, cases_lt, cases_eq, eq-eqb}
 use Rattle.std.proofs.lemmas.Bool.Decides.{nat_tests}
 use Rattle.triangle.specs.Triangle.{tri, cell, skip, jump, opened, closed}
-use Rattle.triangle.specs.Laws.{Blank, Places, Moved, Opened, Closed, Undone, Pinned}
+use Rattle.triangle.specs.Laws.{Blank, Places, Moved, Opened, Closed, Pinned}
 use Rattle.triangle.proofs.Tri.{spot-max, spot-min, low_below}
 use Rattle.triangle.proofs.Drawn.{drawn_as, pinned}
 use Rattle.triangle.proofs.Lifts.{skip-jump, jump_not}
@@ -49,22 +49,12 @@ module _ {X : Type 0} (z : X) (f : ℕ → ℕ → X) (n r : ℕ) where
   closed-blank hr bl i j h =
       ⊎_elim (λ e. grind (arith, nat_tests)) (λ ne. grind (arith, nat_tests, bl i j (omega arith))) (cases_eq (max i j + 1) n)
 
--- a matrix that is z everywhere stays so when a rank is opened
-pub opened-none : {X : Type 0} (z : X) (f : ℕ → ℕ → X) (n r : ℕ) → ((i j : ℕ) → f i j ≡ z) → (i j : ℕ) → opened z n r f i j ≡ z
-opened-none z f n r h i j = grind (arith, nat_tests, h i j, h (skip r i) (skip r j))
-
 module _ (X : Type 0) (z : X) where
   pub opens : Opened X z
   opens f n r hr bl = (opened_is z f n r hr bl, opened-blank z f n r hr bl)
 
   pub closes : Closed X z
   closes f n r hr bl = (closed_is z f n r hr bl, closed-blank z f n r hr bl)
-
-  pub undone : Undone X z
-  undone f n r hr bl i j =
-      closed_is z (opened z n r f) (n + 1) r (omega arith) (opened-blank z f n r hr bl) i j
-      ∙ opened_is z f n r hr bl (jump r i) (jump r j)
-      ∙ grind (arith, nat_tests, skip-jump r i, skip-jump r j, jump_not r i, jump_not r j)
 
   pub all_pinned : Pinned X z
   all_pinned = record { only = pinned z; rows = λ p xs e. drawn_as z xs p e (cell z xs) (λ i j. refl) }

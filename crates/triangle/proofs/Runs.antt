@@ -1,11 +1,14 @@
 -- Copies of runs of places, and what they do to rows. Assumes nothing.
-use Rattle.std.proofs.Common.{◌≡◌, ℕ, ◌+◌, ◌-◌, ◌<◌, ◌≤◌, true, false, cond, not, ◌&&◌, eqb, ltb, leb, ◌≢◌, ◌⊎◌, List, ◌++◌, length, get_or, take, drop, set, replicate, sym, refl, ap, ◌∙◌, inl, inr, ⊎_elim, arith}
+use Rattle.std.proofs.Common.{◌≡◌, ℕ, ◌+◌, ◌-◌, ◌<◌, ◌≤◌, true, false, cond, not, ◌&&◌, eqb, ltb, leb, ◌≢◌, ◌⊎◌, List, [], ◌++◌, length, get_or, take, drop, replicate, sym, refl, ap, ◌∙◌, inl, inr, ⊎_elim, arith}
 use borrow.Rule.Slice.PartMut.{put_mid}
-use Rattle.std.proofs.lemmas.List.{get_or_append_left, get_or-append_right, get_or-drop, get_or_read, get_or-replicate, get_or-set_same, get_or-set_other, get_or-take, length-replicate, length-take-le}
+use Rattle.std.proofs.lemmas.List.{append_assoc, append-nil, get_or_append_left, get_or-append_right, get_or-drop, get_or-replicate, get_or-take, length-append, length-drop, length-replicate, length-take-le, take-append-drop}
 use Rattle.std.proofs.lemmas.Bool.{and_from, and_right, cases_lt, cases_eq, cases_order, cond-true, cond-false, eq-eqb, ne_eqb, le-leb, lt-leb, lt-ltb, le-ltb}
-use Rattle.std.proofs.lemmas.Bool.Decides.{nat_tests}
-use Rattle.triangle.specs.Triangle.{tri, skip, jump, copied}
+use Rattle.triangle.specs.Triangle.{tri, skip, jump}
 use Rattle.triangle.proofs.Tri.{tri_more, tri-rows}
+
+-- the places f after a copy of count places from `from` on to `to` on
+abbrev copied : {X : Type 0} → ℕ → ℕ → ℕ → (ℕ → X) → ℕ → X
+copied from to count f k = cond (leb to k && ltb k (to + count)) (f (k - to + from)) (f k)
 
 -- a place outside the target, and one inside
 pub copied_out : {X : Type 0} (from to count : ℕ) (f : ℕ → X) (k : ℕ) → (k < to) ⊎ (to + count ≤ k) → copied from to count f k ≡ f k
@@ -19,27 +22,72 @@ pub copied_in : {X : Type 0} (from to count : ℕ) (f : ℕ → X) (k m : ℕ) �
 copied_in from to count f k m le lt e =
     cond-true (leb to k && ltb k (to + count)) (f (k - to + from)) (f k) (and_from (leb to k) (ltb k (to + count)) (le-leb to k le) (lt-ltb k (to + count) lt)) ∙ ap f e
 
--- one place more is copied
-pub copied_more : {X : Type 0} (z : X) (xs ys : List X) (from to j n : ℕ) (x : X) → j < n → from + n ≤ length ys → to + n ≤ length ys → (to ≤ from) ⊎ (from + n ≤ to)
-    → ((k : ℕ) → get_or ys k z ≡ copied from to j (λ p. get_or xs p z) k)
-    → x ≡ get_or ys (from + j) x
-    → (k : ℕ) → get_or (set ys (to + j) x) k z ≡ copied from to (j + 1) (λ p. get_or xs p z) k
-copied_more z xs ys from to j n x lt lf ll apart inv read k =
-    let here : x ≡ get_or ys (from + j) z = get_or_read ys (from + j) x (omega arith) read z in
-    let there : get_or ys (from + j) z ≡ get_or xs (from + j) z = grind (arith, nat_tests, inv (from + j)) in
+-- a place of a list a part of which was written: before the part, in it, and past it
+module _ {X : Type 0} (z : X) (xs part : List X) (s n : ℕ) (fits : s + n ≤ length xs) (long : length part ≡ n) where
+  front : length (take s xs) ≡ s
+  front = length-take-le s xs (omega arith)
+
+  pub read_before : (k : ℕ) → k < s → get_or (put_mid s n xs part) k z ≡ get_or xs k z
+  read_before k lt =
+      let e = front in
+      get_or_append_left (take s xs) (part ++ drop n (drop s xs)) z k (omega arith) ∙ get_or-take s xs k z lt
+
+  pub read_inside : (k : ℕ) → s ≤ k → k < s + n → get_or (put_mid s n xs part) k z ≡ get_or part (k - s) z
+  read_inside k le lt =
+      get_or-append_right (take s xs) (part ++ drop n (drop s xs)) s k z front le
+      ∙ get_or_append_left part (drop n (drop s xs)) z (k - s) (omega arith)
+
+  pub read_past : (k : ℕ) → s + n ≤ k → get_or (put_mid s n xs part) k z ≡ get_or xs k z
+  read_past k le =
+      get_or-append_right (take s xs) (part ++ drop n (drop s xs)) s k z front (omega arith)
+      ∙ get_or-append_right part (drop n (drop s xs)) n (k - s) z long (omega arith)
+      ∙ get_or-drop n (drop s xs) (k - s - n) z
+      ∙ get_or-drop s xs (n + (k - s - n)) z
+      ∙ ap (λ m. get_or xs m z) (omega arith)
+
+  pub length-written : length (put_mid s n xs part) ≡ length xs
+  length-written =
+      let e = front in
+      let f : length (drop n (drop s xs)) ≡ length xs - s - n = length-drop n (drop s xs) ∙ ap (λ m. m - n) (length-drop s xs) in
+      length-append (take s xs) (part ++ drop n (drop s xs)) ∙ omega (arith, length-append part (drop n (drop s xs)))
+
+-- a part of the middle written, with what stands from another place on
+pub copied_part : {X : Type 0} (z : X) (front xs back part : List X) (s n from : ℕ) → s + n ≤ length xs → length part ≡ n
+    → ((j : ℕ) → j < n → get_or part j z ≡ get_or (front ++ (xs ++ back)) (from + j) z)
+    → (k : ℕ) → get_or (front ++ (put_mid s n xs part ++ back)) k z ≡ copied from (length front + s) n (λ p. get_or (front ++ (xs ++ back)) p z) k
+copied_part z front xs back part s n from fits long same k =
+    let to = length front + s in
+    let ys = put_mid s n xs part in
+    let f = λ (p : ℕ). get_or (front ++ (xs ++ back)) p z in
+    let size : length ys ≡ length xs = length-written z xs part s n fits long in
     ⊎_elim
-    (λ e.
-    let same : get_or (set ys (to + j) x) k z ≡ x = ap (λ m. get_or (set ys (to + j) x) m z) e ∙ get_or-set_same ys (to + j) x z (omega arith) in
-    let place : k - to + from ≡ from + j = omega arith in
-    let q : get_or xs (k - to + from) z ≡ get_or xs (from + j) z = ap (λ m. get_or xs m z) place in
-    let a : leb to k ≡ true = grind (arith, nat_tests) in
-    let b : ltb k (to + (j + 1)) ≡ true = grind (arith, nat_tests) in
-    simp (a, b) (same ∙ here ∙ there ∙ sym q))
-    (λ ne.
-    let other : get_or (set ys (to + j) x) k z ≡ get_or ys k z = get_or-set_other ys (to + j) k x z ne in
-    let b : ltb k (to + (j + 1)) ≡ ltb k (to + j) = grind (arith, nat_tests) in
-    simp b (other ∙ inv k))
-    (cases_eq k (to + j))
+    (λ lt.
+    get_or_append_left front (ys ++ back) z k lt
+    ∙ sym (get_or_append_left front (xs ++ back) z k lt)
+    ∙ sym (copied_out from to n f k (inl (omega arith))))
+    (λ ge.
+    let m = k - length front in
+    let now : get_or (front ++ (ys ++ back)) k z ≡ get_or (ys ++ back) m z = get_or-append_right front (ys ++ back) (length front) k z refl ge in
+    let was : get_or (front ++ (xs ++ back)) k z ≡ get_or (xs ++ back) m z = get_or-append_right front (xs ++ back) (length front) k z refl ge in
+    ⊎_elim
+    (λ within.
+    let now' : get_or (ys ++ back) m z ≡ get_or ys m z = get_or_append_left ys back z m (omega arith) in
+    let was' : get_or (xs ++ back) m z ≡ get_or xs m z = get_or_append_left xs back z m within in
+    ⊎_elim
+    (λ lt. now ∙ now' ∙ read_before z xs part s n fits long m lt ∙ sym (was ∙ was') ∙ sym (copied_out from to n f k (inl (omega arith))))
+    (λ le. ⊎_elim
+    (λ lt.
+    now ∙ now' ∙ read_inside z xs part s n fits long m le lt ∙ same (m - s) (omega arith)
+    ∙ sym (copied_in from to n f k (from + (m - s)) (omega arith) (omega arith) (omega arith)))
+    (λ past. now ∙ now' ∙ read_past z xs part s n fits long m past ∙ sym (was ∙ was') ∙ sym (copied_out from to n f k (inr (omega arith))))
+    (cases_lt m (s + n)))
+    (cases_lt m s))
+    (λ out.
+    now ∙ get_or-append_right ys back (length xs) m z size out
+    ∙ sym (was ∙ get_or-append_right xs back (length xs) m z refl out)
+    ∙ sym (copied_out from to n f k (inr (omega arith))))
+    (cases_lt m (length xs)))
+    (cases_lt k (length front))
 
 -- a place in another row than i lies outside row i
 outside : (a b i : ℕ) → b ≤ a → a ≢ i → (tri a + b < tri i) ⊎ (tri (i + 1) ≤ tri a + b)
@@ -55,34 +103,21 @@ pub filled_row : {X : Type 0} (z : X) (xs ys : List X) (at n r : ℕ) → at ≡
 filled_row z xs ys at n r ea en fits is a b le =
     let k = tri a + b in
     let t = tri_more r in
-    let rest = drop n (drop at xs) in
-    let la : length (take at xs) ≡ at = length-take-le at xs (omega arith) in
-    let ly : length ys ≡ n = ap length is ∙ length-replicate n z in
+    let long : length ys ≡ n = ap length is ∙ length-replicate n z in
     ⊎_elim
     (λ e.
     let here : k ≡ at + b = omega (arith, ap tri e) in
-    cond_eq e
-    (get_or-append_right (take at xs) (ys ++ rest) at k z la (omega arith)
-    ∙ get_or_append_left ys rest z (k - at) (omega arith)
+    read_inside z xs ys at n fits long k (omega arith) (omega arith)
     ∙ ap (λ l. get_or l (k - at) z) is
-    ∙ get_or-replicate n (k - at) z z (omega arith)))
-    (λ ne. cond_ne ne
-    (⊎_elim
-    (λ lt. get_or_append_left (take at xs) (ys ++ rest) z k (omega arith) ∙ get_or-take at xs k z (omega arith))
-    (λ ge.
-    get_or-append_right (take at xs) (ys ++ rest) at k z la (omega arith)
-    ∙ get_or-append_right ys rest n (k - at) z ly (omega arith)
-    ∙ get_or-drop n (drop at xs) (k - at - n) z
-    ∙ get_or-drop at xs (n + (k - at - n)) z
-    ∙ ap (λ m. get_or xs m z) (omega arith))
-    (outside a b r le ne)))
+    ∙ get_or-replicate n (k - at) z z (omega arith)
+    ∙ sym (cond-true (eqb a r) z _ (eq-eqb a r e)))
+    (λ ne.
+    ⊎_elim
+    (λ lt. read_before z xs ys at n fits long k (omega arith))
+    (λ ge. read_past z xs ys at n fits long k (omega arith))
+    (outside a b r le ne)
+    ∙ sym (cond-false (eqb a r) z _ (ne_eqb a r ne)))
     (cases_eq a r)
-  where
-    cond_eq : a ≡ r → get_or (put_mid at n xs ys) (tri a + b) z ≡ z → get_or (put_mid at n xs ys) (tri a + b) z ≡ cond (eqb a r) z (get_or xs (tri a + b) z)
-    cond_eq e h = h ∙ sym (cond-true (eqb a r) z _ (eq-eqb a r e))
-
-    cond_ne : a ≢ r → get_or (put_mid at n xs ys) (tri a + b) z ≡ get_or xs (tri a + b) z → get_or (put_mid at n xs ys) (tri a + b) z ≡ cond (eqb a r) z (get_or xs (tri a + b) z)
-    cond_ne ne h = h ∙ sym (cond-false (eqb a r) z _ (ne_eqb a r ne))
 
 -- row i in two runs into row i + 1, passing over column r
 pub lift_runs : {X : Type 0} (f g h : ℕ → X) (i r from to : ℕ) → from ≡ tri i → to ≡ from + i + 1 → r ≤ i
@@ -166,3 +201,97 @@ sink_runs f g h i r from to et ef hr one two a b le =
     ∙ one k
     ∙ copied_out from to r f k (⊎_elim (λ lt. inl (omega arith)) (λ ge. inr (omega arith)) o)))
     (cases_eq a i)
+
+-- the rows up to row i, and the places from row i + 1 on
+module _ {X : Type 0} (z : X) (above next : List X) (i r at : ℕ) (place : at ≡ tri i) (rank : r ≤ i) (ends : length above ≡ at + i + 1) (more : i + 2 ≤ length next) where
+  -- how many places row i has, and the row
+  abbrev size : ℕ
+  size = length above - at
+
+  abbrev row : List X
+  row = take size (drop at above)
+
+  abbrev before : List X
+  before = take at above
+
+  abbrev rest : List X
+  rest = drop size (drop at above)
+
+  length-row : length row ≡ i + 1
+  length-row = length-take-le size (drop at above) (omega (arith, length-drop at above)) ∙ omega arith
+
+  row_at : (ys : List X) (j : ℕ) → j < i + 1 → get_or (above ++ ys) (at + j) z ≡ get_or row j z
+  row_at ys j lt = get_or_append_left above ys z (at + j) (omega arith) ∙ sym (get_or-take size (drop at above) j z (omega arith) ∙ get_or-drop at above j z)
+
+  -- a part of row i + 1 written
+  next_step : (ys part : List X) (s n from : ℕ) → s + n ≤ length ys → length part ≡ n → ((j : ℕ) → j < n → get_or part j z ≡ get_or (above ++ ys) (from + j) z)
+      → (k : ℕ) → get_or (above ++ put_mid s n ys part) k z ≡ copied from (at + i + 1 + s) n (λ p. get_or (above ++ ys) p z) k
+  next_step ys part s n from fits long same k =
+      ap (λ l. get_or (above ++ l) k z) (sym (append-nil (put_mid s n ys part)))
+      ∙ copied_part z above ys [] part s n from fits long (λ j lt. same j lt ∙ ap (λ l. get_or (above ++ l) (from + j) z) (sym (append-nil ys))) k
+      ∙ ap (λ t. copied from (t + s) n (λ p. get_or (above ++ (ys ++ [])) p z) k) ends
+      ∙ ap (λ l. copied from (at + i + 1 + s) n (λ p. get_or (above ++ l) p z) k) (append-nil ys)
+
+  pub lifted : (one two : List X) → one ≡ take r row → two ≡ take (length row - r) (drop r row)
+      → (a b : ℕ) → b ≤ a → get_or (above ++ put_mid (r + 1) (i + 2 - (r + 1)) (put_mid 0 r next one) two) (tri a + b) z
+      ≡ cond (eqb a (i + 1) && not (eqb b r)) (get_or (above ++ next) (tri i + skip r b) z) (get_or (above ++ next) (tri a + b) z)
+  lifted one two eo et a b le =
+      let n = length-row in
+      let lo : length one ≡ r = ap length eo ∙ length-take-le r row (omega arith) in
+      let lt : length two ≡ i + 2 - (r + 1) = ap length et ∙ length-take-le (length row - r) (drop r row) (omega (arith, length-drop r row)) ∙ omega arith in
+      let first = put_mid 0 r next one in
+      let same : length first ≡ length next = length-written z next one 0 r (omega arith) lo in
+      lift_runs (λ k. get_or (above ++ next) k z) (λ k. get_or (above ++ first) k z) (λ k. get_or (above ++ put_mid (r + 1) (i + 2 - (r + 1)) first two) k z)
+      i r at (at + i + 1) place refl rank
+      (λ k. next_step next one 0 r at (omega arith) lo (λ j lj. ap (λ l. get_or l j z) eo ∙ get_or-take r row j z lj ∙ sym (row_at next j (omega arith))) k
+      ∙ ap (λ t. copied at t r (λ p. get_or (above ++ next) p z) k) (omega arith))
+      (λ k. next_step first two (r + 1) (i + 2 - (r + 1)) (at + r) (omega arith) lt
+      (λ j lj. ap (λ l. get_or l j z) et ∙ get_or-take (length row - r) (drop r row) j z (omega arith) ∙ get_or-drop r row j z
+      ∙ sym (row_at first (r + j) (omega arith)) ∙ ap (λ m. get_or (above ++ first) m z) (omega arith)) k
+      ∙ ap (λ c. copied (at + r) (at + i + 1 + (r + 1)) c (λ p. get_or (above ++ first) p z) k) (omega arith)
+      ∙ ap (λ t. copied (at + r) t (i + 1 - r) (λ p. get_or (above ++ first) p z) k) (omega arith))
+      a b le
+
+  -- with other places for row i
+  abbrev whole : List X → List X
+  whole ys = put_mid at size above ys ++ next
+
+  whole_is : whole row ≡ above ++ next
+  whole_is = ap (λ t. before ++ t ++ next) (take-append-drop size (drop at above)) ∙ ap (λ t. t ++ next) (take-append-drop at above)
+
+  regrouped : (ys : List X) → whole ys ≡ before ++ (ys ++ (rest ++ next))
+  regrouped ys = append_assoc before (ys ++ rest) next ∙ ap (λ t. before ++ t) (append_assoc ys rest next)
+
+  next_at : (ys : List X) (j : ℕ) → length ys ≡ i + 1 → j < i + 2 → get_or (whole ys) (at + i + 1 + j) z ≡ get_or next j z
+  next_at ys j long lt =
+      let n : length (put_mid at size above ys) ≡ length above = length-written z above ys at size (omega arith) (long ∙ omega arith) in
+      get_or-append_right (put_mid at size above ys) next (at + i + 1) (at + i + 1 + j) z (n ∙ ends) (omega arith) ∙ ap (λ m. get_or next m z) (omega arith)
+
+  -- a part of row i written
+  row_step : (ys part : List X) (s n from : ℕ) → s + n ≤ length ys → length part ≡ n → ((j : ℕ) → j < n → get_or part j z ≡ get_or (whole ys) (from + j) z)
+      → (k : ℕ) → get_or (whole (put_mid s n ys part)) k z ≡ copied from (at + s) n (λ p. get_or (whole ys) p z) k
+  row_step ys part s n from fits long same k =
+      ap (λ l. get_or l k z) (regrouped (put_mid s n ys part))
+      ∙ copied_part z before ys (rest ++ next) part s n from fits long (λ j lt. same j lt ∙ ap (λ l. get_or l (from + j) z) (regrouped ys)) k
+      ∙ ap (λ t. copied from (t + s) n (λ p. get_or (before ++ (ys ++ (rest ++ next))) p z) k) (length-take-le at above (omega arith))
+      ∙ ap (λ l. copied from (at + s) n (λ p. get_or l p z) k) (sym (regrouped ys))
+
+  pub sunk : (one two : List X) → one ≡ take r next → two ≡ take (i + 2 - (r + 1)) (drop (r + 1) next)
+      → (a b : ℕ) → b ≤ a → get_or (whole (put_mid r (length (put_mid 0 r row one) - r) (put_mid 0 r row one) two)) (tri a + b) z
+      ≡ cond (eqb a i) (get_or (above ++ next) (tri (i + 1) + jump r b) z) (get_or (above ++ next) (tri a + b) z)
+  sunk one two eo et a b le =
+      let n = length-row in
+      let lo : length one ≡ r = ap length eo ∙ length-take-le r next (omega arith) in
+      let first = put_mid 0 r row one in
+      let same : length first ≡ length row = length-written z row one 0 r (omega arith) lo in
+      let m = length first - r in
+      let lt : length two ≡ m = ap length et ∙ length-take-le (i + 2 - (r + 1)) (drop (r + 1) next) (omega (arith, length-drop (r + 1) next)) ∙ omega arith in
+      sink_runs (λ k. get_or (above ++ next) k z) (λ k. get_or (whole first) k z) (λ k. get_or (whole (put_mid r m first two)) k z) i r (at + i + 1) at place refl rank
+      (λ k. row_step row one 0 r (at + i + 1) (omega arith) lo (λ j lj. ap (λ l. get_or l j z) eo ∙ get_or-take r next j z lj ∙ sym (next_at row j n (omega arith))) k
+      ∙ ap (λ t. copied (at + i + 1) t r (λ p. get_or (whole row) p z) k) (omega arith)
+      ∙ ap (λ l. copied (at + i + 1) at r (λ p. get_or l p z) k) whole_is)
+      (λ k. row_step first two r m (at + i + 1 + r + 1) (omega arith) lt
+      (λ j lj. ap (λ l. get_or l j z) et ∙ get_or-take (i + 2 - (r + 1)) (drop (r + 1) next) j z (omega arith) ∙ get_or-drop (r + 1) next j z
+      ∙ sym (next_at first (r + 1 + j) (same ∙ n) (omega arith)) ∙ ap (λ p. get_or (whole first) p z) (omega arith)) k
+      ∙ ap (λ c. copied (at + i + 1 + r + 1) (at + r) c (λ p. get_or (whole first) p z) k) (omega arith))
+      a b le

@@ -1,7 +1,7 @@
 -- One element stated, and elements one after another. Assumes nothing.
-use Rattle.std.proofs.Common.{◌≡◌, ℕ, suc, ◌+◌, ◌<◌, ◌≤◌, min, Bool, true, false, cond, not, ◌&&◌, ◌||◌, List, ◌∷◌, length, get_or, drop, Ok, Err, sym, refl, ap, ◌∙◌, arith}
+use Rattle.std.proofs.Common.{◌≡◌, ℕ, suc, ◌+◌, ◌<◌, min, Bool, true, false, cond, not, ◌&&◌, ◌||◌, List, ◌∷◌, length, get_or, drop, sym, refl, ap, ◌∙◌, arith}
 use mathlib.Core.Path.{fun_ext}
-use Rattle.std.proofs.lemmas.List.{drop_more, drop_all}
+use Rattle.std.proofs.lemmas.List.{drop_more}
 use Rattle.std.proofs.lemmas.Bool.{and_parts, and_from, cond-true, cond-false}
 use Rattle.triangle.specs.declared.row.Element.{Element}
 use Rattle.triangle.specs.declared.row.Side.{Side}
@@ -11,15 +11,6 @@ use Rattle.triangle.specs.Statements.{inside, on_side, rank_of, free, sound, sta
 or_right : (b c : Bool) → c ≡ true → b || c ≡ true
 or_right true c e = refl
 or_right false c e = e
-
--- what an answer says of its test
-pub ok_true : {E : Type 0} (b : Bool) (e : E) (u : Unit {0}) → Ok u ≡ cond b (Ok tt) (Err e) → b ≡ true
-ok_true true e u q = refl
-ok_true false e u q = let z : ◌≡◌ {A = ℕ} 0 1 = cc in absurd (omega arith)
-
-pub err_false : {E : Type 0} (b : Bool) (e d : E) → Err d ≡ cond b (Ok (tt {0})) (Err e) → b ≡ false
-err_false true e d q = let z : ◌≡◌ {A = ℕ} 0 1 = cc in absurd (omega arith)
-err_false false e d q = refl
 
 module _ {X : Type 0} (void : X → Bool) (ρ : List ℕ) (count : ℕ) (side : Side) (len : ℕ) where
   module _ (f : ℕ → ℕ → X) (e : Element X) where
@@ -73,8 +64,3 @@ module _ {X : Type 0} (void : X → Bool) (ρ : List ℕ) (count : ℕ) (side : 
         let u : run void ρ count side len f (drop k es) ≡ f = ap (run void ρ count side len f) m ∙ cond-false _ _ _ bad in
         let v : taken void ρ count side len f (drop k es) ≡ 0 = ap (taken void ρ count side len f) m ∙ cond-false _ _ _ bad in
         (sym u ∙ p, omega (arith, v, q))
-
-    pub left_all : (f : ℕ → ℕ → X) (k : ℕ) → length es ≤ k → Left f k → (f ≡ run void ρ count side len f₀ es) × (k ≡ taken void ρ count side len f₀ es)
-    left_all f k h (p, q) =
-        let m = drop_all k es h in
-        (sym (ap (run void ρ count side len f) m) ∙ p, omega (arith, ap (taken void ρ count side len f) m, q))

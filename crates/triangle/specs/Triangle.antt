@@ -91,7 +91,3 @@ opened_in z len n r f i j = cond (openable len n r) (opened z n r f i j) (f i j)
 
 abbrev pub closed_in : {X : Type 0} → X → ℕ → ℕ → ℕ → (ℕ → ℕ → X) → ℕ → ℕ → X
 closed_in z len n r f i j = cond (closable len n r) (closed z n r f i j) (f i j)
-
--- the places f after a copy of count places from `from` on to `to` on
-abbrev pub copied : {X : Type 0} → ℕ → ℕ → ℕ → (ℕ → X) → ℕ → X
-copied from to count f k = cond (nat_le to k && nat_lt k (to + count)) (f (k - to + from)) (f k)

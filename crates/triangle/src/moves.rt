@@ -1,32 +1,21 @@
 // Opening and closing a rank in place. Opening goes in two steps: first all the moves, then the zeros.
-ghost use Rattle.std.specs.Prelude.{◌≡◌, ℕ, suc, ◌+◌, ◌-◌, ◌<◌, ◌≤◌, false, not, ◌&&◌, ◌⊎◌, length, if◌then◌else◌, Ok, Err, ◌==◌, nat_le, nat_lt, slice_index_or};
+ghost use Rattle.std.specs.Prelude.{◌≡◌, ℕ, suc, ◌+◌, ◌-◌, ◌<◌, ◌≤◌, false, not, ◌&&◌, length, if◌then◌else◌, Ok, Err, ◌==◌, nat_le, nat_lt};
 ghost use Rattle.refusals.specs.declared.Fault.TheVariants.{TableFull, RecordAbsent};
-ghost use Rattle.triangle.specs.Triangle.{tri, HasRows, cell, low, skip, jump, copied, spread, wiped, opened_in, closed_in, rows_of, openable, closable};
+ghost use Rattle.triangle.specs.Triangle.{tri, HasRows, cell, low, skip, jump, spread, wiped, opened_in, closed_in, rows_of, openable, closable};
 
 use crate::cell::{Cell, RANKS, has_rows, rows};
 use refusals::Fault;
 
-// Copies count cells from the place `from` on to the place `to` on. By index: `copy_within` takes a fifth longer here.
-fn copy_run<T: Cell>(cells: &mut [T], from: usize, to: usize, count: usize)
-    requires within { (from + count ≤ length cells.old) × (to + count ≤ length cells.old) }
-    requires apart { (to ≤ from) ⊎ (from + count ≤ to) }
-    ensures { (k : ℕ) → slice_index_or cells.new k T.Cell.nought ≡ copied from to count (λ p. slice_index_or cells.old p T.Cell.nought) k }
-{
-    for j in 0..count {
-        cells[to + j] = cells[from + j];
-    }
-}
-
-// Copies row i into row i + 1, passing over column r of row i + 1; `sink_row` passes over that of the row that it reads, so the two share only the copies.
+// Copies row i into row i + 1, passing over column r of row i + 1. Apart from `sink_row`, which lends the other row for writing.
 fn lift_row<T: Cell>(cells: &mut [T], i: usize, r: usize)
     requires rows { HasRows (length cells.old) (suc (suc i)) }
     requires rank { r ≤ i }
     ensures { (a b : ℕ) → b ≤ a → low T.Cell.nought cells.new a b ≡ (if a == i + 1 && not (b == r) then low T.Cell.nought cells.old i (skip r b) else low T.Cell.nought cells.old a b) }
 {
-    let from = rows(i);
-    let to = from + i + 1;
-    copy_run(cells, from, to, r);
-    copy_run(cells, from + r, to + r + 1, i + 1 - r);
+    let (above, next) = cells.split_at_mut(rows(i + 1));
+    let row = &above[rows(i)..];
+    next[..r].copy_from_slice(&row[..r]);
+    next[r + 1..i + 2].copy_from_slice(&row[r..]);
 }
 
 // Moves the rows from r to n - 1 down by one row, each passing over column r. By number, since a row's place follows from its number.
@@ -76,10 +65,10 @@ fn sink_row<T: Cell>(cells: &mut [T], i: usize, r: usize)
     requires rank { r ≤ i }
     ensures { (a b : ℕ) → b ≤ a → low T.Cell.nought cells.new a b ≡ (if a == i then low T.Cell.nought cells.old (i + 1) (jump r b) else low T.Cell.nought cells.old a b) }
 {
-    let to = rows(i);
-    let from = to + i + 1;
-    copy_run(cells, from, to, r);
-    copy_run(cells, from + r + 1, to + r, i + 1 - r);
+    let (above, next) = cells.split_at_mut(rows(i + 1));
+    let row = &mut above[rows(i)..];
+    row[..r].copy_from_slice(&next[..r]);
+    row[r..].copy_from_slice(&next[r + 1..i + 2]);
 }
 
 // Moves the rows past r up by one row, each passing over column r. By number, as in `lift`.

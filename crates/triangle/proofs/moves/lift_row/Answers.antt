@@ -1,10 +1,11 @@
-use Rattle.std.proofs.Common.{◌+◌, get_or, refl, arith}
-use Rattle.triangle.proofs.Runs.{lift_runs}
+use Rattle.std.proofs.Common.{arith}
+use Rattle.triangle.proofs.Tri.{tri_more}
+use Rattle.triangle.proofs.Runs.{lifted}
 use Rattle.triangle.proofs.moves.lift_row.Goals as goal
 
 pub returns : goal.returns
 returns g c =
-    let z = g.T.Cell.nought in
-    lift_runs (λ k. get_or c.args.cells.now k z) (λ k. get_or c.copy_run.new.cells k z) (λ k. get_or c.copy_run-2.new.cells k z)
-    c.args.i c.args.r c.rows-from.result (c.rows-from.result + c.args.i + 1) c.rows-from.ensures.count refl (omega arith)
-    c.copy_run.ensures c.copy_run-2.ensures
+    let parts = c.split_at_mut-above.ensures in
+    rw parts.value
+    (lifted g.T.Cell.nought c.split_at_mut-above.result.0.now c.split_at_mut-above.result.1.now c.args.i c.args.r c.rows-2.result c.rows-2.ensures.count (omega arith)
+    (omega (arith, tri_more c.args.i)) (omega (arith, tri_more c.args.i)) _ _ c.copy_from_slice.ensures.after c.copy_from_slice-2.ensures.after)
