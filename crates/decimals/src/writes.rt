@@ -5,7 +5,8 @@ ghost use Rattle.decimals.specs.Write.{fixed, below, digits_text, number_text, d
 
 use crate::number::{Deviation, Number};
 
-// The last digits of `m`, as many as there is room for.
+// The last digits of `m`, as many as there is room for. Written by places: of what is written through `iter_mut().rev()`, the check
+// knows nothing afterwards.
 pub fn put_digits(out: &mut [u8], m: u64)
     ensures { out.new ≡ fixed (length out.old) m }
 {
