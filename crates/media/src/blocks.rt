@@ -13,7 +13,7 @@ const PAYLOAD: usize = 510;
 // The blocks past these are not used.
 const MOST_BLOCKS: usize = 196_078;
 
-// The raw bytes, and how many bytes their blocks hold.
+// The raw bytes, which are the lender's, and how many bytes their blocks hold.
 #[derive(Drop)]
 pub struct Blocks<'a> {
     raw: &'a mut [u8],
