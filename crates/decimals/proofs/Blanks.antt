@@ -1,7 +1,8 @@
 -- Blanks at the front, and texts of blanks alone.
-use Rattle.std.proofs.Common.{◌≡◌, ℕ, zero, suc, true, eqb, List, [], ◌∷◌, ◌++◌, replicate, sym, refl, ap, ◌∙◌, ⊎_elim}
+use Rattle.std.proofs.Common.{arith, drop, ◌≡◌, ℕ, zero, suc, true, eqb, List, [], ◌∷◌, ◌++◌, replicate, sym, refl, ap, ◌∙◌, ⊎_elim}
 use Rattle.std.proofs.lemmas.List.{append-nil}
 use Rattle.std.proofs.lemmas.Bool.{cond-true, cond-false, cases_Bool, eqb-true, false≢true}
+use Rattle.std.specs.List.{list_all, prefix_len}
 use Rattle.decimals.specs.Scan.{unblank}
 use Rattle.decimals.specs.Number.{blank, is_empty}
 
@@ -33,3 +34,18 @@ pub blank_is : (t : List ℕ) → blank t ≡ true → (n : ℕ) × (t ≡ repli
 blank_is t e =
     let r = unblank-split t in
     (r.0, r.1 ∙ (ap (λ x. replicate r.0 32 ++ x) (empty_is (unblank t) e) ∙ append-nil (replicate r.0 32)))
+
+pub blank_all : (t : List ℕ) → blank t ≡ list_all (λ c. eqb c 32) t
+blank_all [] = refl
+blank_all (c ∷ cs) = let h = blank_all cs in grind arith
+
+-- what follows the blanks, by how many they are
+pub unblank-drop : (t : List ℕ) → unblank t ≡ drop (prefix_len (λ c. eqb c 32) t) t
+unblank-drop [] = refl
+unblank-drop (c ∷ cs) =
+    ⊎_elim
+    (λ t.
+    let e : prefix_len (λ x. eqb x 32) (c ∷ cs) ≡ suc (prefix_len (λ x. eqb x 32) cs) = cond-true _ _ _ t ∙ omega arith in
+    cond-true _ _ _ t ∙ (unblank-drop cs ∙ ap (λ k. drop k (c ∷ cs)) (sym e)))
+    (λ f. cond-false _ _ _ f ∙ ap (λ k. drop k (c ∷ cs)) (sym (cond-false _ _ _ f)))
+    (cases_Bool (eqb c 32))

@@ -10,6 +10,3 @@ same_result a b x = cc
 
 pub nothing : {A : Type 0} (a : A) → ◌≡◌ {A = Option A} None (Some a) → ⊥
 nothing a e = let z : ◌≡◌ {A = ℕ} 0 1 = cc in omega arith
-
-pub same_some : {A : Type 0} (a b : A) → ◌≡◌ {A = Option A} (Some a) (Some b) → a ≡ b
-same_some a b x = cc

@@ -1,8 +1,9 @@
 -- Runs of digits, as they are written and read.
-use Rattle.std.proofs.Common.{◌≡◌, ℕ, zero, suc, ◌+◌, ◌-◌, ◌*◌, ◌/◌, ◌%◌, ◌^◌, ◌<◌, ◌≤◌, Bool, true, false, cond, ◌&&◌, eqb, leb, ◌⊎◌, List, [], ◌∷◌, ◌++◌, length, get_or, take, drop, set, Some, None, Option, sym, refl, ap, ◌∙◌, subst, inl, inr, ⊎_elim, mod-eq_of_lt, arith}
+use Rattle.std.proofs.Common.{◌≡◌, ℕ, zero, suc, ◌+◌, ◌-◌, ◌*◌, ◌/◌, ◌%◌, ◌^◌, ◌<◌, ◌≤◌, Bool, true, false, cond, ◌&&◌, eqb, leb, List, [], ◌∷◌, ◌++◌, length, drop, set, Some, None, Option, sym, refl, ap, ◌∙◌, subst, ⊎_elim, mod-eq_of_lt, arith}
 use native.Mathlib.Nat.{div-eq_of_lt}
-use Rattle.std.proofs.lemmas.List.{append-nil, append_assoc, length-append, length-drop, get_or-drop, take-append-drop, at_drop_more, drop_more, drop_all, take_more, take_more_set, drop-set-lt, set_split}
-use Rattle.std.proofs.lemmas.Bool.{cond-true, cond-false, cond_both, and_from, and_parts, le-leb, leb-true, eq-eqb, eqb-true, ne_eqb, or_from, cases_Bool}
+use Rattle.std.proofs.lemmas.List.{append-nil, length-append}
+use Rattle.std.proofs.lemmas.Bool.{cond-true, cond-false, cond_both, and_from, and_parts, le-leb, leb-true, eqb-true, ne_eqb, or_from, cases_Bool}
+use Rattle.std.specs.List.{prefix_len}
 use Rattle.decimals.specs.Scan.{unblank, minus, unsigned, is_digit, digits_from, count, past}
 use Rattle.decimals.specs.Number.{Digits, after_whole, digits_of_text, is_empty}
 use Rattle.decimals.specs.Numeral.{numeral, tenths}
@@ -94,10 +95,6 @@ pub record Shown (ds r : List ℕ) : Type 0 where
 
 whole_run : (c : ℕ) (cs r : List ℕ) → OnlyDigits (c ∷ cs) → blanked (c ∷ cs) ≡ c ∷ cs → Shown (c ∷ cs) r
 whole_run c cs r o e = record { digits = c ∷ cs; only = o; some = omega arith; few = omega arith; value = refl; read = ap (λ t. unblank (t ++ r)) e ∙ (digit_front c (cs ++ r) o.0).0 }
-
--- a zero in front says nothing
-zero_front : (t : List ℕ) → digits_from 0 (48 ∷ t) ≡ digits_from 0 t
-zero_front t = refl
 
 pub blanked_read : (ds r : List ℕ) → OnlyDigits ds → 1 ≤ length ds → Shown ds r
 blanked_read [] r o h = absurd (omega arith)
@@ -222,50 +219,24 @@ right_numeral w n a b l =
     let e : unblank (blanked (fixed w n)) ≡ s.digits = ap unblank (sym (append-nil (blanked (fixed w n)))) ∙ (s.read ∙ append-nil s.digits) in
     ap numeral e ∙ (numeral-run s.digits s.only s.some (omega (arith, s.few, length-fixed w n)) ∙ ap Some (s.value ∙ (fixed_number w n ∙ mod-eq_of_lt l)))
 
--- ---- the loops that write them
+-- ---- how they are written
 
-blanked-same : (t : List ℕ) → (length t ≤ 1) ⊎ (get_or t 0 0 ≡ 48 → ⊥) → blanked t ≡ t
-blanked-same [] h = refl
-blanked-same (c ∷ []) h = refl
-blanked-same (c ∷ (d ∷ ds)) (inl h) = absurd (omega arith)
-blanked-same (c ∷ (d ∷ ds)) (inr h) = cond-false _ _ _ (ne_eqb c 48 h)
+pub blanked_short : (xs : List ℕ) → length xs ≤ 1 → blanked xs ≡ xs
+blanked_short [] h = refl
+blanked_short (c ∷ []) h = refl
+blanked_short (c ∷ (d ∷ ds)) h = absurd (omega arith)
 
-pub blanked_stop : (xs : List ℕ) (i : ℕ) → (length xs ≤ i + 1) ⊎ (get_or xs i 0 ≡ 48 → ⊥) → take i xs ++ blanked (drop i xs) ≡ xs
-blanked_stop xs i h =
-    let z : i + 0 ≡ i = omega arith in
-    let g : get_or (drop i xs) 0 0 ≡ get_or xs i 0 = get_or-drop i xs 0 0 ∙ ap (λ k. get_or xs k 0) z in
-    let w : (length (drop i xs) ≤ 1) ⊎ (get_or (drop i xs) 0 0 ≡ 48 → ⊥) = ⊎_elim (λ a. inl (omega (arith, length-drop i xs))) (λ b. inr (λ e. b (sym g ∙ e))) h in
-    ap (λ t. take i xs ++ t) (blanked-same (drop i xs) w) ∙ take-append-drop i xs
-
-two_fronts : {A : Type 0} (F : List ℕ → A) (xs : List ℕ) (i : ℕ) → i + 1 < length xs → F (drop i xs) ≡ F (get_or xs i 0 ∷ (get_or xs (i + 1) 0 ∷ drop (i + 1 + 1) xs))
-two_fronts F xs i h = at_drop_more F xs i 0 (omega arith) ∙ ap (λ t. F (get_or xs i 0 ∷ t)) (drop_more xs (i + 1) 0 h)
-
-pub blanked_more : (xs : List ℕ) (i : ℕ) → i + 1 < length xs → get_or xs i 0 ≡ 48 → take (i + 1) (set xs i 32) ++ blanked (drop (i + 1) (set xs i 32)) ≡ take i xs ++ blanked (drop i xs)
-blanked_more xs i h e =
-    let b : List ℕ = blanked (drop (i + 1) xs) in
-    let l : i < i + 1 = omega arith in
-    ap (λ t. t ++ blanked (drop (i + 1) (set xs i 32))) (take_more_set xs i 32 (omega arith))
-    ∙ (ap (λ t. (take i xs ++ (32 ∷ [])) ++ blanked t) (drop-set-lt (i + 1) xs i 32 l)
-    ∙ (append_assoc (take i xs) (32 ∷ []) b
-    ∙ ap (λ t. take i xs ++ t) (sym (two_fronts blanked xs i h ∙ (cond-true _ _ _ (eq-eqb (get_or xs i 0) 48 e) ∙ ap (λ t. 32 ∷ blanked t) (sym (drop_more xs (i + 1) 0 h)))))))
-
-pub marked_more : (xs : List ℕ) (i : ℕ) → i + 1 < length xs → get_or xs (i + 1) 0 ≡ 32 → take (i + 1) xs ++ marked (drop (i + 1) xs) ≡ take i xs ++ marked (drop i xs)
-marked_more xs i h e =
-    let c : ℕ = get_or xs i 0 in
-    ap (λ t. t ++ marked (drop (i + 1) xs)) (take_more xs i 0 (omega arith))
-    ∙ (append_assoc (take i xs) (c ∷ []) (marked (drop (i + 1) xs))
-    ∙ ap (λ t. take i xs ++ t) (sym (two_fronts marked xs i h ∙ (cond-true _ _ _ (eq-eqb (get_or xs (i + 1) 0) 32 e) ∙ ap (λ t. c ∷ marked t) (sym (drop_more xs (i + 1) 0 h))))))
-
-marked-last : (xs : List ℕ) (i : ℕ) → i < length xs → (length xs ≤ i + 1) ⊎ ((i + 1 < length xs) × (get_or xs (i + 1) 0 ≡ 32 → ⊥)) → marked (drop i xs) ≡ 45 ∷ drop (suc i) xs
-marked-last xs i p (inl h) =
-    let s : i + 1 ≡ suc i = omega arith in
-    at_drop_more marked xs i 0 p ∙ (ap (λ t. marked (get_or xs i 0 ∷ t)) (drop_all (i + 1) xs h) ∙ ap (λ t. 45 ∷ t) (sym (drop_all (suc i) xs (omega arith))))
-marked-last xs i p (inr h) =
-    let s : i + 1 ≡ suc i = omega arith in
-    two_fronts marked xs i h.0 ∙ (cond-false _ _ _ (ne_eqb (get_or xs (i + 1) 0) 32 h.1) ∙ (ap (λ t. 45 ∷ t) (sym (drop_more xs (i + 1) 0 h.0)) ∙ ap (λ k. 45 ∷ drop k xs) s))
-
-pub marked_stop : (xs : List ℕ) (i : ℕ) → i < length xs → (length xs ≤ i + 1) ⊎ ((i + 1 < length xs) × (get_or xs (i + 1) 0 ≡ 32 → ⊥)) → set xs i 45 ≡ take i xs ++ marked (drop i xs)
-marked_stop xs i p h = set_split xs i 45 p ∙ ap (λ t. take i xs ++ t) (sym (marked-last xs i p h))
+-- a minus sign in the place behind the blanks but one
+pub marked_is : (xs : List ℕ) → set xs (prefix_len (λ c. eqb c 32) (drop 1 xs)) 45 ≡ marked xs
+marked_is [] = refl
+marked_is (c ∷ []) = refl
+marked_is (c ∷ (d ∷ ds)) =
+    let one : 1 + prefix_len (λ c. eqb c 32) ds ≡ suc (prefix_len (λ c. eqb c 32) ds) = omega arith in
+    let put : ℕ → List ℕ = λ k. set (c ∷ (d ∷ ds)) k 45 in
+    ⊎_elim
+    (λ t. ap put (cond-true _ _ _ t ∙ one) ∙ (ap (λ l. c ∷ l) (marked_is (d ∷ ds)) ∙ sym (cond-true _ _ _ t)))
+    (λ f. ap put (cond-false _ _ _ f) ∙ sym (cond-false _ _ _ f))
+    (cases_Bool (eqb d 32))
 
 -- ---- how large they are
 

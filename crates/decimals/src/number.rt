@@ -9,9 +9,24 @@ pub struct Number {
     pub negative: bool,
 }
 
+impl Number {
+    pub const ZERO: Number = Number {
+        mantissa: 0,
+        exponent: 0,
+        negative: false,
+    };
+}
+
 // A standard deviation: mantissa × 10^(exponent - 5), with a mantissa of six digits. Zero is (0, 0).
 #[derive(Clone, Copy, PartialEq, Eq, Debug)]
 pub struct Deviation {
     pub mantissa: u64,
     pub exponent: i32,
+}
+
+impl Deviation {
+    pub const ZERO: Deviation = Deviation {
+        mantissa: 0,
+        exponent: 0,
+    };
 }

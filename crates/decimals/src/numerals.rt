@@ -9,18 +9,11 @@ pub fn read_numeral(s: &[u8]) -> Option<u32>
     ensures value { result ≡ numeral s.now }
     ensures small { IfSome result (λ n. n < 10 ^ length s.now) }
 {
-    if s.len() < 1 {
-        return None;
-    }
-    if s.len() > 9 {
+    if s.is_empty() || s.len() > 9 {
         return None;
     }
     let run = digits(s, 0);
-    if run.rest.is_empty() {
-        Some(run.value as u32)
-    } else {
-        None
-    }
+    run.rest.is_empty().then(|| run.value as u32)
 }
 
 // Digits, a point and one digit, and nothing else, in at most nine bytes: as tenths.

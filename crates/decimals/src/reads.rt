@@ -1,65 +1,48 @@
 // Decimal numbers, read.
 ghost use Rattle.std.specs.Prelude.{◌≡◌, ℕ, ◌+◌, ◌*◌, ◌/◌, ◌^◌, ◌<◌, ◌≤◌, true, false, length, pos, negsuc, ◌+ℤ◌, ◌-ℤ◌, ◌≤ℤ◌, IfSome};
 ghost use Rattle.decimals.specs.Scan.{unblank};
-ghost use Rattle.decimals.specs.Number.{digits_of_text, blank, exponent, exponent_digits, fitted, size, scaled, read_at, read_number, read_deviation};
+ghost use Rattle.decimals.specs.Number.{signed, digits_of_text, blank, exponent, exponent_digits, fitted, size, scaled, read_at, read_number, read_deviation};
 
 use crate::number::{Deviation, Number};
 use crate::scan::{digits, is_blank, skip_blanks, take_mantissa, take_sign};
 use refusals::Fault;
 
+fn signed(negative: bool, n: u8) -> i32
+    ensures { result ≡ signed negative n }
+{
+    if negative {
+        -i32::from(n)
+    } else {
+        i32::from(n)
+    }
+}
+
+// One or two digits, and blanks to the end.
 fn exponent_digits(negative: bool, s: &[u8]) -> Option<i32>
-    requires { length s.now ≤ 21 }
     ensures value { result ≡ exponent_digits negative s.now }
     ensures small { IfSome result (λ e. (negsuc 98 ≤ℤ e) × (e ≤ℤ pos 99)) }
 {
-    let run = digits(s, 0);
-    if run.count < 1 || run.count > 2 || !is_blank(run.rest) {
-        return None;
+    match s {
+        [ones @ b'0'..=b'9', rest @ ..] if is_blank(rest) => Some(signed(negative, ones - b'0')),
+        [tens @ b'0'..=b'9', ones @ b'0'..=b'9', rest @ ..] if is_blank(rest) => {
+            Some(signed(negative, 10 * (tens - b'0') + (ones - b'0')))
+        }
+        _ => None,
     }
-    let n = run.value as i32;
-    if negative { Some(-n) } else { Some(n) }
 }
 
+// E or e with one or two digits and a sign or none, or nothing, and blanks to the end.
 fn read_exponent(s: &[u8]) -> Option<i32>
-    requires { length s.now ≤ 21 }
     ensures value { result ≡ exponent s.now }
     ensures small { IfSome result (λ e. (negsuc 98 ≤ℤ e) × (e ≤ℤ pos 99)) }
 {
-    if s.is_empty() {
-        return Some(0);
+    match s {
+        [b'E' | b'e', tail @ ..] => {
+            let (negative, digits) = take_sign(tail);
+            exponent_digits(negative, digits)
+        }
+        _ => is_blank(s).then_some(0),
     }
-    let c = s[0];
-    if c == b'E' || c == b'e' {
-        let (negative, tail) = take_sign(&s[1..]);
-        exponent_digits(negative, tail)
-    } else if is_blank(s) {
-        Some(0)
-    } else {
-        None
-    }
-}
-
-// How many digits a number has, and the power of ten just above it.
-#[derive(Clone, Copy)]
-struct Size {
-    count: u32,
-    unit: u128,
-}
-
-fn size_of(value: u128) -> Size
-    requires { value < 10 ^ 21 }
-    ensures count { result.count ≡ size value }
-    ensures unit { result.unit ≡ 10 ^ size value }
-    ensures small { result.count ≤ 21 }
-    ensures above { value < result.unit }
-{
-    let mut unit: u128 = 1;
-    let mut count: u32 = 0;
-    while unit <= value {
-        unit *= 10;
-        count += 1;
-    }
-    Size { count, unit }
 }
 
 // The number that is ± all / place × 10^exponent, where that is a whole mantissa and the exponent is in range.
@@ -67,7 +50,7 @@ fn fit(negative: bool, all: u128, place: u128, exponent: i32) -> Result<Number, 
     requires { (0 < place) × (all / place ≤ 10 ^ 15) }
     ensures { result ≡ fitted negative all place exponent }
 {
-    if all % place != 0 || exponent < -99 || exponent > 99 {
+    if all % place != 0 || !(-99..=99).contains(&exponent) {
         return Err(Fault::NumberOutOfRange);
     }
     Ok(Number {
@@ -87,6 +70,7 @@ fn first_power(power: i32, digits: u32) -> i32
 }
 
 // The number that is ± value × 10^power, at the precision of `unit`, a power of ten.
+#[tactic(auto, unfolding(crate::specs::Number::scaled))]
 fn scale(negative: bool, value: u128, power: i32, unit: u128) -> Result<Number, Fault>
     requires value_bound { value < 10 ^ 21 }
     requires unit_bound { unit ≤ 10 ^ 15 }
@@ -94,19 +78,11 @@ fn scale(negative: bool, value: u128, power: i32, unit: u128) -> Result<Number, 
     ensures { result ≡ scaled unit (record { negative = negative; value = value; power = power }) }
 {
     if value == 0 {
-        return Ok(Number {
-            negative: false,
-            mantissa: 0,
-            exponent: 0,
-        });
+        return Ok(Number::ZERO);
     }
-    let size = size_of(value);
-    fit(
-        negative,
-        value * unit,
-        size.unit,
-        first_power(power, size.count),
-    )
+    let digits = value.ilog10() + 1;
+    let place = 10u128.pow(digits);
+    fit(negative, value * unit, place, first_power(power, digits))
 }
 
 // The power of ten of the last digit, with `places` digits after the point.
@@ -118,6 +94,7 @@ fn last_power(exponent: i32, places: usize) -> i32
     exponent - places as i32
 }
 
+#[tactic(auto, unfolding(crate::specs::Number::read_at))]
 fn read_at(text: &[u8], unit: u128) -> Result<Number, Fault>
     requires { unit ≤ 10 ^ 15 }
     ensures { result ≡ read_at unit text.now }
@@ -130,10 +107,8 @@ fn read_at(text: &[u8], unit: u128) -> Result<Number, Fault>
     if m.count == 0 {
         return Err(Fault::WrongNumber);
     }
-    match read_exponent(m.rest) {
-        Some(e) => scale(negative, m.value, last_power(e, m.places), unit),
-        None => Err(Fault::WrongNumber),
-    }
+    let exponent = read_exponent(m.rest).ok_or(Fault::WrongNumber)?;
+    scale(negative, m.value, last_power(exponent, m.places), unit)
 }
 
 // A number, of at most 15 significant digits.

@@ -16,11 +16,8 @@ pub fn skip_blanks(s: &[u8]) -> &[u8]
     ensures rest { result.now ≡ unblank s.now }
     ensures short { length result.now ≤ length s.now }
 {
-    let mut i = 0;
-    while i < s.len() && s[i] == b' ' {
-        i += 1;
-    }
-    &s[i..]
+    let blanks = s.iter().take_while(|c| **c == b' ').count();
+    &s[blanks..]
 }
 
 // Whether a minus sign is at the front, and what follows the sign, if there is one.
@@ -29,12 +26,10 @@ pub fn take_sign(s: &[u8]) -> (bool, &[u8])
     ensures rest { result.1.now ≡ unsigned s.now }
     ensures short { length result.1.now ≤ length s.now }
 {
-    if s.len() > 0 && s[0] == b'-' {
-        (true, &s[1..])
-    } else if s.len() > 0 && s[0] == b'+' {
-        (false, &s[1..])
-    } else {
-        (false, s)
+    match s {
+        [b'-', rest @ ..] => (true, rest),
+        [b'+', rest @ ..] => (false, rest),
+        _ => (false, s),
     }
 }
 
@@ -48,15 +43,15 @@ pub(crate) fn digits(s: &[u8], v: u128) -> Run<'_>
     ensures size { result.count + length result.rest.now ≡ length s.now }
 {
     let mut value = v;
-    let mut i = 0;
-    while i < s.len() && s[i] >= b'0' && s[i] <= b'9' {
-        value = value * 10 + (s[i] - b'0') as u128;
-        i += 1;
+    let mut rest = s;
+    while let [digit @ b'0'..=b'9', tail @ ..] = rest {
+        value = value * 10 + u128::from(*digit - b'0');
+        rest = tail;
     }
     Run {
         value,
-        count: i,
-        rest: &s[i..],
+        count: s.len() - rest.len(),
+        rest,
     }
 }
 
@@ -64,7 +59,7 @@ pub(crate) fn digits(s: &[u8], v: u128) -> Run<'_>
 pub fn is_blank(s: &[u8]) -> bool
     ensures { result ≡ blank s.now }
 {
-    skip_blanks(s).is_empty()
+    s.iter().all(|c| *c == b' ')
 }
 
 // Digits with at most one point: `places` of them are after it.
@@ -76,32 +71,32 @@ pub(crate) struct Mantissa<'a> {
     pub rest: &'a [u8],
 }
 
+// The digits at the front, with a point among them or none.
 pub(crate) fn take_mantissa(s: &[u8]) -> Mantissa<'_>
     requires { length s.now ≤ 21 }
     ensures value { result.value ≡ (digits_of_text s.now).value }
     ensures count { result.count ≡ (digits_of_text s.now).count }
     ensures places { result.places ≡ (digits_of_text s.now).places }
     ensures rest { result.rest.now ≡ (digits_of_text s.now).rest }
-    ensures small { result.value < 10 ^ 21 }
     ensures tight { result.value < 10 ^ length s.now }
     ensures short { result.places + length result.rest.now ≤ 21 }
 {
     let whole = digits(s, 0);
-    let tail = whole.rest;
-    if tail.len() > 0 && tail[0] == b'.' {
-        let part = digits(&tail[1..], whole.value);
-        Mantissa {
-            value: part.value,
-            count: whole.count + part.count,
-            places: part.count,
-            rest: part.rest,
+    match whole.rest {
+        [b'.', tail @ ..] => {
+            let part = digits(tail, whole.value);
+            Mantissa {
+                value: part.value,
+                count: whole.count + part.count,
+                places: part.count,
+                rest: part.rest,
+            }
         }
-    } else {
-        Mantissa {
+        _ => Mantissa {
             value: whole.value,
             count: whole.count,
             places: 0,
-            rest: tail,
-        }
+            rest: whole.rest,
+        },
     }
 }

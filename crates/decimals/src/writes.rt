@@ -5,14 +5,13 @@ ghost use Rattle.decimals.specs.Write.{fixed, below, digits_text, number_text, d
 
 use crate::number::{Deviation, Number};
 
-// The last digits of `m`, as many as there is room for.
+// The last digits of `m`, as many as there is room for. Written by places: of what is written through `iter_mut().rev()`, the check
+// knows nothing afterwards.
 pub fn put_digits(out: &mut [u8], m: u64)
     ensures { out.new ≡ fixed (length out.old) m }
 {
     let mut rest = m;
-    let mut i = out.len();
-    while i > 0 {
-        i -= 1;
+    for i in (0..out.len()).rev() {
         out[i] = b'0' + (rest % 10) as u8;
         rest /= 10;
     }
@@ -22,10 +21,12 @@ pub fn put_digits(out: &mut [u8], m: u64)
 fn blank_zeros(out: &mut [u8])
     ensures { out.new ≡ blanked out.old }
 {
-    let mut i = 0;
-    while i + 1 < out.len() && out[i] == b'0' {
-        out[i] = b' ';
-        i += 1;
+    let last = out.len().saturating_sub(1);
+    for column in &mut out[..last] {
+        if *column != b'0' {
+            return;
+        }
+        *column = b' ';
     }
 }
 
@@ -33,14 +34,10 @@ fn blank_zeros(out: &mut [u8])
 fn mark_minus(out: &mut [u8])
     ensures { out.new ≡ marked out.old }
 {
-    if out.is_empty() {
-        return;
+    if let [_, after @ ..] = &*out {
+        let blanks = after.iter().take_while(|c| **c == b' ').count();
+        out[blanks] = b'-';
     }
-    let mut i = 0;
-    while i + 1 < out.len() && out[i + 1] == b' ' {
-        i += 1;
-    }
-    out[i] = b'-';
 }
 
 // The last digits of `n`, as many as there is room for, on the right, with a minus sign or none before them.
@@ -54,20 +51,14 @@ pub fn put_right(out: &mut [u8], negative: bool, n: u64)
     }
 }
 
-fn sign_column(negative: bool, other: u8) -> u8
-    ensures { result ≡ (if negative then 45 else other) }
-{
-    if negative { b'-' } else { other }
-}
-
 // E, a sign and two digits.
-fn put_exponent(out: &mut [u8], q: i32)
-    requires { length out.old ≡ 4 }
-    ensures { out.new ≡ 69 ∷ ((if below q then 45 else 43) ∷ fixed 2 (unsigned_abs q)) }
+fn exponent_text(q: i32) -> [u8; 4]
+    ensures { result ≡ 69 ∷ ((if below q then 45 else 43) ∷ fixed 2 (unsigned_abs q)) }
 {
-    out[0] = b'E';
-    out[1] = sign_column(q < 0, b'+');
-    put_digits(&mut out[2..4], q.unsigned_abs() as u64);
+    let sign = if q < 0 { b'-' } else { b'+' };
+    let mut out = [b'E', sign, 0, 0];
+    put_digits(&mut out[2..], u64::from(q.unsigned_abs()));
+    out
 }
 
 // One digit, a point, the digits that there is room for, and the exponent.
@@ -75,11 +66,11 @@ fn put_scientific(out: &mut [u8], m: u64, q: i32)
     requires { 7 ≤ length out.old }
     ensures { out.new ≡ digits_text (length out.old - 6) m q }
 {
-    let n = out.len();
-    put_exponent(&mut out[n - 4..n], q);
-    put_digits(&mut out[1..n - 4], m);
-    out[0] = out[1];
-    out[1] = b'.';
+    let (digits, exponent) = out.split_at_mut(out.len() - 4);
+    put_digits(&mut digits[1..], m);
+    digits[0] = digits[1];
+    digits[1] = b'.';
+    exponent.copy_from_slice(&exponent_text(q));
 }
 
 // A number: a column for the sign, and fourteen digits after the point.
@@ -87,8 +78,10 @@ pub fn write_number(n: &Number) -> [u8; 21]
     ensures { result ≡ number_text n.now }
 {
     let mut out = [b' '; 21];
-    out[0] = sign_column(n.negative, b' ');
-    put_scientific(&mut out[1..21], n.mantissa, n.exponent);
+    if n.negative {
+        out[0] = b'-';
+    }
+    put_scientific(&mut out[1..], n.mantissa, n.exponent);
     out
 }
 
@@ -97,6 +90,6 @@ pub fn write_deviation(d: &Deviation) -> [u8; 11]
     ensures { result ≡ deviation_text d.now }
 {
     let mut out = [b' '; 11];
-    put_scientific(&mut out[0..11], d.mantissa, d.exponent);
+    put_scientific(&mut out, d.mantissa, d.exponent);
     out
 }

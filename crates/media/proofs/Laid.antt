@@ -3,6 +3,7 @@ use native.Mathlib.Nat.{div-add-mod}
 use lib.ListN.{length-replicate}
 use Rattle.std.proofs.lemmas.Bool.{le-leb, eq-eqb, ne_eqb, cases_lt}
 use Rattle.std.proofs.lemmas.List.{take_at, drop_at, take_all, take-append-drop, nil_from_length}
+use Rattle.media.proofs.Held.{held_first}
 use Rattle.media.specs.Blocks.{count, zeros, held_by, held, blocks, block_content, block, laid_out}
 
 zeros-replicate : (n : ℕ) → zeros (replicate n 0) ≡ true
@@ -59,18 +60,11 @@ length-laid (suc n) xs =
     length-append (block (take 510 xs)) (laid_out n (drop 510 xs))
     ∙ omega (arith, length-first xs, length-laid n (drop 510 xs))
 
--- n + k blocks, of which the first holds the bytes of a block and the others are r
-held_first : (n : ℕ) (xs r : List ℕ) → held (suc n) (block (take 510 xs) ++ r) ≡ held_by (block (take 510 xs)) (held n r)
-held_first n xs r =
-    let b = block (take 510 xs) in
-    let l = length-first xs in
-    ap (λ x. held_by x (held n (drop 512 (b ++ r)))) (take_at b r 512 l) ∙ ap (λ x. held_by b (held n x)) (drop_at b r 512 l)
-
 held-laid : (n : ℕ) (xs : List ℕ) → length xs ≤ 510 * n → held n (laid_out n xs) ≡ xs
 held-laid zero xs h = sym (nil_from_length xs (omega arith))
 held-laid (suc n) xs h =
     let hr : length (drop 510 xs) ≤ 510 * n = simp length-drop (omega arith) in
-    held_first n xs (laid_out n (drop 510 xs))
+    held_first n (block (take 510 xs)) (laid_out n (drop 510 xs)) (length-first xs)
     ∙ ap (λ x. held_by (block (take 510 xs)) x) (held-laid n (drop 510 xs) hr)
     ∙ first_block xs
 
@@ -80,7 +74,7 @@ held_behind (suc n) k xs ys h =
     let b = block (take 510 xs) in
     let r = laid_out n (drop 510 xs) in
     let m : suc n + k ≡ suc (n + k) = omega arith in
-    ap (λ i. held i ((b ++ r) ++ ys)) m ∙ ap (held (suc (n + k))) (append_assoc b r ys) ∙ held_first (n + k) xs (r ++ ys)
+    ap (λ i. held i ((b ++ r) ++ ys)) m ∙ ap (held (suc (n + k))) (append_assoc b r ys) ∙ held_first (n + k) b (r ++ ys) (length-first xs)
     ∙ ⊎_elim
     (λ (few : length xs < 510). short_block xs (held (n + k) (r ++ ys)) few)
     (λ (many : 510 ≤ length xs).

@@ -1,14 +1,14 @@
 -- What blocks hold after a write to the first of them.
-use Rattle.std.proofs.Common.{◌≡◌, ℕ, zero, suc, ◌+◌, ◌/◌, ◌%◌, ◌<◌, ◌≤◌, Bool, true, false, cond, eqb, ◌≢◌, List, [], ◌∷◌, ◌++◌, length, get_or, take, drop, set, sym, refl, ap, ◌∙◌, append-nil, arith, length-drop, length-set, get_or-set_other, get_or-set_same, drop-set-lt}
+use Rattle.std.proofs.Common.{length-take, ◌-◌, ◌≡◌, ℕ, zero, suc, ◌+◌, ◌/◌, ◌%◌, ◌<◌, ◌≤◌, true, ◌≢◌, List, [], ◌∷◌, ◌++◌, length, get_or, take, drop, set, sym, refl, ap, ◌∙◌, append-nil, arith, length-drop, length-set, get_or-set_other, get_or-set_same, drop-set-lt}
 use native.Mathlib.Nat.{div-add-mod}
 use lib.Seq.{take-set-lt, drop-set-add}
+use borrow.Rule.Slice.PartMut.{put_mid, post_of}
+use Rattle.std.proofs.lemmas.Slice.{take-put_mid_below}
+use Rattle.std.proofs.lemmas.List.{drop_at, take-append-le}
 use Rattle.std.proofs.lemmas.Bool.{le-leb}
-use Rattle.std.proofs.lemmas.List.{get_or-take, take_more_set, drop-drop, length-take-le}
+use Rattle.std.proofs.lemmas.Bool.Decides.{nat_tests}
+use Rattle.std.proofs.lemmas.List.{take_more_set, drop-drop, length-take-le}
 use Rattle.media.specs.Blocks.{count, zeros, held}
-
-cond_same : {A : Type 0} (b : Bool) (x : A) → cond b x x ≡ x
-cond_same true x = refl
-cond_same false x = refl
 
 -- a block with the count 0 holds nothing
 pub held_none : (n : ℕ) (bs : List ℕ) → count (take 512 bs) ≡ 0 → held n bs ≡ []
@@ -19,8 +19,7 @@ held_none (suc n) bs e = rw e
 made_suc : (n : ℕ) (r xs : List ℕ) (k : ℕ) → count (take 512 r) ≡ k → 1 ≤ k → k ≤ 510
     → zeros (drop (2 + k) (take 512 r)) ≡ true → take k (drop 2 (take 512 r)) ≡ xs
     → held n (drop 512 r) ≡ [] → held (suc n) r ≡ xs
-made_suc n r xs k e one top z p q =
-    rw (e, le-leb 1 k one, le-leb k 510 top, z, p, q, cond_same {A = List ℕ} (eqb k 510) []) (append-nil xs)
+made_suc n r xs k e one top z p q = rw (e, le-leb 1 k one, le-leb k 510 top, z, p, q) (grind (arith, nat_tests, append-nil))
 
 pub made : (m : ℕ) (r xs : List ℕ) (k : ℕ) → 1 ≤ m → count (take 512 r) ≡ k → 1 ≤ k → k ≤ 510
     → zeros (drop (2 + k) (take 512 r)) ≡ true → take k (drop 2 (take 512 r)) ≡ xs
@@ -30,7 +29,7 @@ made (suc n) r xs k h e one top z p q = made_suc n r xs k e one top z p (q n ref
 
 zeros_tail : (xs : List ℕ) → zeros xs ≡ true → zeros (drop 1 xs) ≡ true
 zeros_tail [] e = refl
-zeros_tail (x ∷ xs) e = elim (eqb x 0) as (λ t. cond t (zeros xs) false ≡ true → zeros xs ≡ true) [ true ↦ λ h. h | false ↦ λ h. absurd (let z : ◌≡◌ {A = ℕ} 0 1 = cc in omega arith) ] e
+zeros_tail (x ∷ xs) e = grind arith
 
 -- the block b with y as byte o of its payload, and its count
 abbrev pub stamped : ℕ → ℕ → List ℕ → List ℕ
@@ -88,19 +87,19 @@ stamped_holds m o y rest r one lt len e z q =
 
 -- a list whose first block has the count 0
 pub clear_first : (r : List ℕ) → 2 ≤ length r → count (take 512 (set (set r 0 0) 1 0)) ≡ 0
-clear_first r h =
-    let n₁ : 0 < length r = omega arith in
-    let n₂ : 1 < length (set r 0 0) = simp length-set (omega arith) in
-    let ne : ◌≢◌ {A = ℕ} 0 1 = omega arith in
-    let hi : get_or (take 512 (set (set r 0 0) 1 0)) 0 0 ≡ 0 =
-    get_or-take 512 (set (set r 0 0) 1 0) 0 0 (omega arith) ∙ get_or-set_other (set r 0 0) 1 0 0 0 ne ∙ get_or-set_same r 0 0 0 n₁ in
-    let lo : get_or (take 512 (set (set r 0 0) 1 0)) 1 0 ≡ 0 =
-    get_or-take 512 (set (set r 0 0) 1 0) 1 0 (omega arith) ∙ get_or-set_same (set r 0 0) 1 0 0 n₂ in
-    omega (arith, hi, lo)
+clear_first [] h = absurd (omega arith)
+clear_first (x ∷ []) h = absurd (omega arith)
+clear_first (x ∷ (y ∷ ys)) h = refl
 
--- a list whose second block has the count 0
-pub clear_next : (r : List ℕ) → 1024 ≤ length r → count (take 512 (drop 512 (set (set r 512 0) 513 0))) ≡ 0
-clear_next r h =
-    let e : drop 512 (set (set r 512 0) 513 0) ≡ set (set (drop 512 r) 0 0) 1 0 =
-    drop-set-add 512 (set r 512 0) 1 0 ∙ ap (λ l. set l 1 0) (drop-set-add 512 r 0 0) in
-    ap (λ l. count (take 512 l)) e ∙ clear_first (drop 512 r) (simp length-drop (omega arith))
+-- a write of the count 0 to the second block
+pub cleared_next : (r w : List ℕ) → 1024 ≤ length r → w ≡ set (set (take (length r - 512) (drop 512 r)) 0 0) 1 0
+    → (take 512 (put_mid 512 (length r - 512) r w) ≡ take 512 r) × (count (take 512 (drop 512 (put_mid 512 (length r - 512) r w))) ≡ 0)
+cleared_next r w h e =
+    let v = take (length r - 512) (drop 512 r) in
+    let lv : length v ≡ length r - 512 = simp (length-take, length-drop) (omega arith) in
+    let lw : length w ≡ length v = ap length e ∙ simp length-set in (
+      take-put_mid_below 512 (length r - 512) r w 512 (omega arith) (omega arith),
+      ap (λ l. count (take 512 l)) (drop_at (take 512 r) (w ++ post_of 512 (length r - 512) r) 512 (length-take-le 512 r (omega arith)))
+          ∙ ap count (take-append-le 512 w (post_of 512 (length r - 512) r) (omega arith))
+          ∙ ap (λ l. count (take 512 l)) e ∙ clear_first v (omega arith),
+    )

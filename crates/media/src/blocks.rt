@@ -13,17 +13,12 @@ const PAYLOAD: usize = 510;
 // The blocks past these are not used.
 const MOST_BLOCKS: usize = 196_078;
 
-// The raw bytes, and how many bytes their blocks hold.
-#[derive(Drop)]
-struct Store<'a> {
-    raw: &'a mut [u8],
-    len: usize,
-}
-
+// The raw bytes, which are the lender's, and how many bytes their blocks hold.
 #[derive(Drop)]
 pub struct Blocks<'a> {
-    store: Store<'a>,
-    ghost ok: { store.len ≡ length (block_content store.raw.now) },
+    raw: &'a mut [u8],
+    len: usize,
+    ghost ok: { len ≡ length (block_content raw.now) },
 }
 
 // Writes the count of the block that rest begins with.
@@ -31,8 +26,7 @@ fn write_count(rest: &mut [u8], k: usize)
     requires { (2 ≤ length rest.old) × (k < 65536) }
     ensures { rest.new ≡ slice_set (slice_set rest.old 0 (k / 256)) 1 (k % 256) }
 {
-    rest[0] = (k / 256) as u8;
-    rest[1] = (k % 256) as u8;
+    rest[..2].copy_from_slice(&(k as u16).to_be_bytes());
 }
 
 // Adds b as byte o of the first of the m blocks of rest, whose payload from there on is zero. The block after it gets the count 0:
@@ -45,8 +39,7 @@ fn stamp(rest: &mut [u8], m: usize, o: usize, b: u8)
     rest[2 + o] = b;
     write_count(rest, o + 1);
     if m > 1 {
-        rest[BLOCK] = 0;
-        rest[BLOCK + 1] = 0;
+        write_count(&mut rest[BLOCK..], 0);
     }
 }
 
@@ -66,27 +59,29 @@ fn add(rest: &mut [u8], m: usize, o: usize, b: u8)
 {
     if o == 0 {
         blank(rest);
-        stamp(rest, m, 0, b);
-    } else {
-        stamp(rest, m, o, b);
     }
+    stamp(rest, m, o, b);
+}
+
+// Whether there is no byte but zero.
+fn is_zero(bytes: &[u8]) -> bool
+    ensures { result ≡ zeros bytes.now }
+{
+    bytes.iter().all(|b| *b == 0)
 }
 
 // The count of a block, or 0 where it is not whole.
 fn whole_count(block: &[u8]) -> usize
     requires { length block.now ≡ 512 }
-    ensures { result ≡ (if whole block.now then count block.now else 0) }
+    ensures value { result ≡ (if whole block.now then count block.now else 0) }
+    ensures few { result ≤ 510 }
 {
-    let k = 256 * block[0] as usize + block[1] as usize;
-    if k == 0 || k > PAYLOAD {
-        return 0;
+    let k = usize::from(u16::from_be_bytes([block[0], block[1]]));
+    if k <= PAYLOAD && is_zero(&block[2 + k..]) {
+        k
+    } else {
+        0
     }
-    for i in 2 + k..BLOCK {
-        if block[i] != 0 {
-            return 0;
-        }
-    }
-    k
 }
 
 // How many blocks of raw are used.
@@ -100,22 +95,15 @@ fn used(raw: &[u8]) -> usize
 fn measured(raw: &[u8]) -> usize
     ensures { result ≡ length (block_content raw.now) }
 {
-    let n = used(raw);
-    for f in 0..n {
-        let k = whole_count(&raw[BLOCK * f..BLOCK * f + BLOCK]);
+    let mut len = 0;
+    for block in raw.chunks_exact(BLOCK).take(used(raw)) {
+        let k = whole_count(block);
+        len += k;
         if k < PAYLOAD {
-            return PAYLOAD * f + k;
+            break;
         }
     }
-    PAYLOAD * n
-}
-
-// How many bytes the blocks of raw can hold.
-fn room_of(raw: &[u8]) -> usize
-    ensures value { result ≡ block_room raw.now }
-    ensures holds { length (block_content raw.now) ≤ result }
-{
-    PAYLOAD * used(raw)
+    len
 }
 
 // A byte that the blocks of raw hold.
@@ -127,6 +115,7 @@ fn byte_of(raw: &[u8], place: usize) -> u8
 }
 
 // One byte more than the len bytes that the blocks of raw hold, or a refusal where they are full.
+// A function over the bytes alone: of a part that is lent of a field, nothing is known afterwards.
 fn append_raw(raw: &mut [u8], len: usize, b: u8) -> Result<(), Full>
     requires { len ≡ length (block_content raw.old) }
     ensures granted { is_ok result ≡ nat_lt (length (block_content raw.old)) (block_room raw.old) }
@@ -142,96 +131,77 @@ fn append_raw(raw: &mut [u8], len: usize, b: u8) -> Result<(), Full>
     Ok(())
 }
 
-fn append_to(s: &mut Store<'_>, b: u8) -> Result<(), Full>
-    requires { s.old.len ≡ length (block_content s.old.raw.now) }
-    ensures granted { is_ok result ≡ nat_lt (length (block_content s.old.raw.now)) (block_room s.old.raw.now) }
-    ensures after { block_content s.new.raw.now ≡ (if is_ok result then block_content s.old.raw.now ++ b ∷ [] else block_content s.old.raw.now) }
-    ensures kept { block_room s.new.raw.now ≡ block_room s.old.raw.now }
-    ensures sound { s.new.len ≡ length (block_content s.new.raw.now) }
+// Gives the first block the count 0.
+fn clear(raw: &mut [u8])
+    ensures after { block_content raw.new ≡ [] }
+    ensures kept { block_room raw.new ≡ block_room raw.old }
 {
-    let len = s.len;
-    append_raw(s.raw, len, b)?;
-    s.len = len + 1;
-    Ok(())
-}
-
-fn clear(s: &mut Store<'_>)
-    ensures after { block_content s.new.raw.now ≡ [] }
-    ensures kept { block_room s.new.raw.now ≡ block_room s.old.raw.now }
-    ensures sound { s.new.len ≡ 0 }
-{
-    s.len = 0;
-    if s.raw.len() >= BLOCK {
-        write_count(s.raw, 0);
+    if raw.len() >= BLOCK {
+        write_count(raw, 0);
     }
 }
 
 // Any bytes that fit are read back from the blocks that they are laid out in, whatever stands behind the last of them that is not full.
-pub fn layout_law() -> u8
+pub fn layout_law()
     ensures back { ReadsBack }
     ensures rest { RestUnread }
-{
-    0
-}
+{}
 
 impl<'a> Blocks<'a> {
     // Takes over what raw holds, whatever its bytes are. Making them goes through the blocks once; reading, append and empty never do.
     pub fn new(raw: &'a mut [u8]) -> Blocks<'a>
-        ensures content { block_content result.store.raw.now ≡ block_content raw.old }
-        ensures room { block_room result.store.raw.now ≡ block_room raw.old }
-        ensures handed { result.store.raw.now ≡ raw.old }
-        ensures lent { result.store.raw.ghost_name ≡ raw.entry.ghost_name }
+        ensures content { block_content result.raw.now ≡ block_content raw.old }
+        ensures room { block_room result.raw.now ≡ block_room raw.old }
+        ensures handed { result.raw.now ≡ raw.old }
+        ensures lent { result.raw.ghost_name ≡ raw.entry.ghost_name }
     {
         let len = measured(raw);
-        let store = Store { raw, len };
-        Blocks { store }
+        Blocks { raw, len }
     }
 
     // Hands the raw bytes back: they hold what the blocks held.
     pub fn into_raw(self) -> &'a mut [u8]
-        ensures { result.now ≡ self.entry.store.raw.now }
+        ensures { result.now ≡ self.entry.raw.now }
     {
-        let raw = self.store.raw;
-        raw
+        self.raw
     }
 
     // Closes the blocks and opens their raw bytes again: all that they held is found there.
     pub fn reopened(self) -> Blocks<'a>
-        ensures content { block_content result.store.raw.now ≡ block_content self.entry.store.raw.now }
-        ensures room { block_room result.store.raw.now ≡ block_room self.entry.store.raw.now }
+        ensures content { block_content result.raw.now ≡ block_content self.entry.raw.now }
+        ensures room { block_room result.raw.now ≡ block_room self.entry.raw.now }
     {
         Blocks::new(self.into_raw())
     }
 }
 
 impl<'a> Source for Blocks<'a> {
-    ghost content = { λ s. block_content s.store.raw.now };
+    ghost content = { λ s. block_content s.raw.now };
 
     fn length(&self) -> usize {
-        self.store.len
+        self.len
     }
 
     fn byte(&self, place: usize) -> Option<u8> {
-        if place < self.length() {
-            Some(byte_of(self.store.raw, place))
-        } else {
-            None
-        }
+        (place < self.len).then(|| byte_of(self.raw, place))
     }
 }
 
 impl<'a> Medium for Blocks<'a> {
-    ghost room = { λ s. block_room s.store.raw.now };
+    ghost room = { λ s. block_room s.raw.now };
 
     fn capacity(&self) -> usize {
-        room_of(self.store.raw)
+        PAYLOAD * used(self.raw)
     }
 
     fn append(&mut self, b: u8) -> Result<(), Full> {
-        append_to(&mut self.store, b)
+        append_raw(self.raw, self.len, b)?;
+        self.len += 1;
+        Ok(())
     }
 
     fn empty(&mut self) {
-        clear(&mut self.store);
+        clear(self.raw);
+        self.len = 0;
     }
 }

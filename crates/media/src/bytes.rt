@@ -1,5 +1,4 @@
 // Bytes that are only read.
-ghost use Rattle.media.specs.Media.{byte_at};
 ghost use Rattle.std.specs.Prelude.{◌≡◌};
 
 use crate::Source;
@@ -17,17 +16,6 @@ impl<'a> Bytes<'a> {
     }
 }
 
-// The byte at a place, or none at or past the end.
-pub(crate) fn byte_of(bytes: &[u8], place: usize) -> Option<u8>
-    ensures { result ≡ byte_at bytes.now place }
-{
-    if place < bytes.len() {
-        Some(bytes[place])
-    } else {
-        None
-    }
-}
-
 impl<'a> Source for Bytes<'a> {
     ghost content = { λ s. s.bytes.now };
 
@@ -36,6 +24,6 @@ impl<'a> Source for Bytes<'a> {
     }
 
     fn byte(&self, place: usize) -> Option<u8> {
-        byte_of(self.bytes, place)
+        self.bytes.get(place).copied()
     }
 }

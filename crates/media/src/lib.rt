@@ -25,7 +25,7 @@ pub trait Source {
 }
 
 // Why an append is refused: there is no space left.
-#[derive(Clone, Copy)]
+#[derive(Clone, Copy, PartialEq, Eq, Debug)]
 pub struct Full;
 
 // The fault that a user is told of.

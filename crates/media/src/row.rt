@@ -2,12 +2,12 @@
 ghost use Rattle.std.specs.Prelude.{◌≡◌, ◌+◌, ◌<◌, min, [], ◌∷◌, ◌++◌, length, take};
 ghost use Rattle.media.specs.Rows.{row_room, row_content};
 
-use crate::bytes::byte_of;
 use crate::{Full, Medium, Source};
 
 // A row has no more bytes than these, however long it is.
 const MOST_BYTES: usize = 100_000_000;
 
+// The bytes are the lender's, and there is no heap: so a slice with a count, and no Vec.
 #[derive(Drop)]
 pub struct Row<'a> {
     bytes: &'a mut [u8],
@@ -36,15 +36,6 @@ impl<'a> Row<'a> {
     }
 }
 
-// Writes b behind the first n bytes, where the row has room for it.
-fn put_behind(bytes: &mut [u8], n: usize, b: u8)
-    requires { n < row_room bytes.old }
-    ensures after { row_content bytes.new (n + 1) ≡ take n bytes.old ++ b ∷ [] }
-    ensures kept { row_room bytes.new ≡ row_room bytes.old }
-{
-    bytes[n] = b;
-}
-
 impl<'a> Source for Row<'a> {
     ghost content = { λ s. row_content s.bytes.now s.fill };
 
@@ -56,7 +47,7 @@ impl<'a> Source for Row<'a> {
     }
 
     fn byte(&self, place: usize) -> Option<u8> {
-        byte_of(&self.bytes[..self.length()], place)
+        self.bytes[..self.length()].get(place).copied()
     }
 }
 
@@ -70,7 +61,7 @@ impl<'a> Medium for Row<'a> {
     fn append(&mut self, b: u8) -> Result<(), Full> {
         let n = self.length();
         if n < self.capacity() {
-            put_behind(self.bytes, n, b);
+            self.bytes[n] = b;
             self.fill = n + 1;
             Ok(())
         } else {

@@ -4,90 +4,65 @@
 ghost use Rattle.std.specs.Prelude.{◌≡◌};
 ghost use Rattle.refusals.specs.Numbers.{number_of};
 
-// A fault. Its number, which `number` gives, is what a user sees.
+// A fault, with the number by which users know it.
 #[derive(Clone, Copy, PartialEq, Eq, Debug)]
 pub enum Fault {
     // the tables handed in have other lengths than the register was made over, or break a limit
-    TableLengths,
+    TableLengths = 1,
     // a reading finds a head or a record in the register
-    RegisterInUse,
+    RegisterInUse = 2,
     // the source has more than 100,000,000 bytes
-    SourceTooLong,
+    SourceTooLong = 3,
     // a line has more than 80 bytes, or one that is not printable
-    UnfitLine,
+    UnfitLine = 4,
     // a line is empty, or its first character says no kind of line
-    UnknownLineKind,
+    UnknownLineKind = 5,
     // the first line is no header line, or there is no line
-    NoHeaderLine,
+    NoHeaderLine = 6,
     // a line stands where the frame of blocks does not allow it
-    BrokenFrame,
+    BrokenFrame = 7,
     // a block's title is none of the format's
-    WrongTitle,
+    WrongTitle = 8,
     // a title comes a second time
-    TitleTwice,
+    TitleTwice = 9,
     // a block that the register takes up is missing
-    BlockMissing,
+    BlockMissing = 10,
     // a text, a code or a column that has to be blank
-    WrongText,
+    WrongText = 11,
     // an epoch
-    WrongEpoch,
+    WrongEpoch = 12,
     // the form of a number
-    WrongNumber,
+    WrongNumber = 13,
     // a number has too many digits or lies outside its range
-    NumberOutOfRange,
+    NumberOutOfRange = 14,
     // a parameter type is unknown, or the unit is another type's
-    WrongType,
+    WrongType = 15,
     // an index is out of step, or the header's count is not the number of estimates
-    OutOfStep,
+    OutOfStep = 16,
     // a key comes a second time in its block
-    KeyTwice,
+    KeyTwice = 17,
     // a site or a span that the record needs is missing
-    NeedMissing,
+    NeedMissing = 18,
     // no place is free in a table
-    TableFull,
+    TableFull = 19,
     // a matrix line states a cell that it may not state
-    WrongCell,
+    WrongCell = 20,
     // a writing finds no head
-    NoHead,
+    NoHead = 21,
     // a named record is absent
-    RecordAbsent,
+    RecordAbsent = 22,
     // a record is still needed by another
-    StillNeeded,
+    StillNeeded = 23,
     // the medium's capacity is too small
-    MediumTooSmall,
+    MediumTooSmall = 24,
 }
 
 impl Fault {
-    // The number by which users know the fault.
+    // The number of the fault.
     pub fn number(self) -> u8
         ensures { result ≡ number_of self }
     {
-        match self {
-            Fault::TableLengths => 1,
-            Fault::RegisterInUse => 2,
-            Fault::SourceTooLong => 3,
-            Fault::UnfitLine => 4,
-            Fault::UnknownLineKind => 5,
-            Fault::NoHeaderLine => 6,
-            Fault::BrokenFrame => 7,
-            Fault::WrongTitle => 8,
-            Fault::TitleTwice => 9,
-            Fault::BlockMissing => 10,
-            Fault::WrongText => 11,
-            Fault::WrongEpoch => 12,
-            Fault::WrongNumber => 13,
-            Fault::NumberOutOfRange => 14,
-            Fault::WrongType => 15,
-            Fault::OutOfStep => 16,
-            Fault::KeyTwice => 17,
-            Fault::NeedMissing => 18,
-            Fault::TableFull => 19,
-            Fault::WrongCell => 20,
-            Fault::NoHead => 21,
-            Fault::RecordAbsent => 22,
-            Fault::StillNeeded => 23,
-            Fault::MediumTooSmall => 24,
-        }
+        self as u8
     }
 }
 
@@ -96,4 +71,13 @@ impl Fault {
 pub struct Refusal {
     pub fault: Fault,
     pub line: u32,
+}
+
+// A fault that stands in no line.
+impl From<Fault> for Refusal {
+    ghost from_gives = { λ fault r. r ≡ record { fault = fault; line = 0 } };
+
+    fn from(fault: Fault) -> Refusal {
+        Refusal { fault, line: 0 }
+    }
 }

@@ -1,23 +1,17 @@
-use Rattle.std.proofs.Common.{◌≡◌, drop, sym, ◌∙◌, arith, length-drop}
-use Rattle.std.proofs.lemmas.List.{take_rest, at_drop_all}
-use Rattle.decimals.specs.Scan.{unblank}
-use Rattle.decimals.proofs.Fronts.{unblank_yes, unblank_no}
+use Rattle.std.proofs.Common.{◌≡◌, drop, eqb, sym, ap, ◌∙◌, rules}
+use borrow.Author.Tests.{tests}
+use Rattle.std.specs.List.{prefix_len}
+use Rattle.std.proofs.lemmas.List.{take_rest}
+use Rattle.std.proofs.lemmas.List.Folds.{length-prefix_len}
+use Rattle.std.proofs.lemmas.Iterator.{YieldsList-from_slice}
+use Rattle.std.proofs.lemmas.Iterator.Consumers.{count_from_yields_List}
+use Rattle.std.proofs.lemmas.Iterator.Search.{YieldsList-from_take_while}
+use Rattle.decimals.proofs.Blanks.{unblank-drop}
 use Rattle.decimals.proofs.scan.skip_blanks.Goals as goal
-use Rattle.decimals.proofs.scan.skip_blanks.Goals.{then-loop-i-test+else-s-i-eq32, else-loop-i-test}
 
-pub loop-i-preserved : goal.loop-i-preserved
-loop-i-preserved c = (omega arith, sym (unblank_yes c.args.s.now c.loop-i.i (omega arith) (omega arith)) ∙ c.loop-i.invariant.1)
-
-pub returns : goal.returns
-returns c =
-    let xs = c.args.s.now in
-    let i = c.loop-i.i in
-    let stop : drop i xs ≡ unblank (drop i xs) =
-    elim c.loop-i-test.branch [
-      | then-loop-i-test+else-s-i-eq32 w ↦ sym (unblank_no xs i (omega arith) w.if-s-i-eq32.false)
-      | else-loop-i-test w ↦ at_drop_all (λ x. x) xs i (omega arith) ∙ sym (at_drop_all unblank xs i (omega arith))
-    ] in
-    record {
-      rest = take_rest xs i ∙ (stop ∙ c.loop-i.invariant.1);
-      short = rw take_rest (rw length-drop (omega arith));
-    }
+pub returns-clause-rest : goal.returns-clause-rest
+returns-clause-rest c =
+    let s = c.args.s.now in
+    let n : c.count-blanks.result ≡ prefix_len (λ x. eqb x 32) s =
+    count_from_yields_List _ _ c.count-blanks.ensures.ran (YieldsList-from_take_while _ (λ x. eqb x 32) (YieldsList-from_slice s (cc)) c.take_while.ensures.closure c.take_while.ensures.done (λ x b q k. search (rules, tests))) ∙ length-prefix_len (λ x. eqb x 32) s in
+    take_rest s c.count-blanks.result ∙ (ap (λ k. drop k s) n ∙ sym (unblank-drop s))

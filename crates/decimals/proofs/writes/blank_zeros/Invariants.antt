@@ -1,9 +1,7 @@
-use Rattle.std.proofs.Common.{◌≡◌, ◌-◌, ◌≤◌, ◌++◌, length, take, drop}
+use Rattle.std.proofs.Common.{◌≡◌, ◌++◌, take, drop}
 use Rattle.decimals.specs.Justify.{blanked}
 use Rattle.decimals.proofs.writes.blank_zeros.Given as goal
 
-abbrev pub invariant-loop-i : goal.invariant-loop-i
-invariant-loop-i l = (l.i ≤ length l.initial.out) × (take l.i l.out ++ blanked (drop l.i l.out) ≡ blanked l.initial.out)
-
-abbrev pub decreases-loop-i : goal.decreases-loop-i
-decreases-loop-i l = length l.initial.out - l.i
+abbrev pub invariant-loop-column : goal.invariant-loop-column
+invariant-loop-column l =
+    take l.column-index l.column-items ++ blanked (drop l.column-index l.column-items ++ drop l.last l.fn.out) ≡ blanked l.fn.out

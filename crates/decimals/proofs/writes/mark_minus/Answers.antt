@@ -1,27 +1,18 @@
-use Rattle.std.proofs.Common.{◌≡◌, ◌+◌, ◌<◌, ◌≤◌, ◌⊎◌, [], length, get_or, sym, ap, ◌∙◌, inl, inr, arith}
-use Rattle.std.proofs.lemmas.List.{nil_from_length}
-use Rattle.std.proofs.lemmas.Bool.{eqb-true}
-use Rattle.decimals.specs.Justify.{marked}
-use Rattle.decimals.proofs.Runs.{marked_more, marked_stop}
+use Rattle.std.proofs.Common.{◌≡◌, ◌-◌, length, take, drop, set, eqb, ap, ◌∙◌, rules}
+use borrow.Author.Tests.{tests}
+use Rattle.std.specs.List.{prefix_len}
+use Rattle.std.proofs.lemmas.List.{take_rest}
+use Rattle.std.proofs.lemmas.List.Folds.{length-prefix_len}
+use Rattle.std.proofs.lemmas.Iterator.{YieldsList-from_slice}
+use Rattle.std.proofs.lemmas.Iterator.Consumers.{count_from_yields_List}
+use Rattle.std.proofs.lemmas.Iterator.Search.{YieldsList-from_take_while}
+use Rattle.decimals.proofs.Runs.{marked_is}
 use Rattle.decimals.proofs.writes.mark_minus.Goals as goal
-use Rattle.decimals.proofs.writes.mark_minus.Goals.{then-loop-i-test+else-out-i-eq32, else-loop-i-test}
 
-pub returns-then-is_empty : goal.returns-then-is_empty
-returns-then-is_empty c =
-    let xs = c.args.out.now in
-    let e : xs ≡ [] = nil_from_length xs (eqb-true (length xs) 0 (sym c.is_empty.ensures ∙ c.if-is_empty.true)) in
-    e ∙ sym (ap marked e)
-
-pub loop-i-preserved : goal.loop-i-preserved
-loop-i-preserved c = (omega arith, marked_more c.args.out.now c.loop-i.i (omega arith) (omega arith) ∙ c.loop-i.invariant.1)
-
-pub returns : goal.returns
-returns c =
-    let xs = c.args.out.now in
-    let i = c.loop-i.i in
-    let w : (length xs ≤ i + 1) ⊎ ((i + 1 < length xs) × (get_or xs (i + 1) 0 ≡ 32 → ⊥)) =
-    elim c.loop-i-test.branch [
-      | then-loop-i-test+else-out-i-eq32 w ↦ inr (omega arith, w.if-out-i-eq32.false)
-      | else-loop-i-test w ↦ inl (omega arith)
-    ] in
-    marked_stop xs i c.loop-i.invariant.0 w ∙ c.loop-i.invariant.1
+pub returns-in-len1-up : goal.returns-in-len1-up
+returns-in-len1-up c =
+    let s = c.args.out.now in
+    let t = take (length s - 1) (drop 1 s) in
+    let n : c.count-blanks.result ≡ prefix_len (λ x. eqb x 32) t =
+    count_from_yields_List _ _ c.count-blanks.ensures.ran (YieldsList-from_take_while _ (λ x. eqb x 32) (YieldsList-from_slice t (cc)) c.take_while.ensures.closure c.take_while.ensures.done (λ x b q k. search (rules, tests))) ∙ length-prefix_len (λ x. eqb x 32) t in
+    ap (λ k. set s k 45) (n ∙ ap (prefix_len (λ x. eqb x 32)) (take_rest s 1)) ∙ marked_is s
