@@ -56,15 +56,8 @@ impl Record for Parameter {
                 epoch: Epoch::Open,
             },
             constraint: Constraint::Fixed,
-            value: Number {
-                negative: false,
-                mantissa: 0,
-                exponent: 0,
-            },
-            deviation: Deviation {
-                mantissa: 0,
-                exponent: 0,
-            },
+            value: Number::ZERO,
+            deviation: Deviation::ZERO,
         }
     }
 }
