@@ -1,5 +1,4 @@
 // What reading and keeping texts and codes have to do with each other.
-ghost use Rattle.std.specs.Prelude.{◌≡◌};
 ghost use Rattle.codes.specs.Codes.{CodesComeBack};
 ghost use Rattle.codes.specs.Order.{TextsAreOrdered};
 ghost use Rattle.codes.specs.ParameterTypes.{TypesComeBack, TypesAreNamed, TypesAreTexts};

@@ -4,7 +4,7 @@ ghost use Rattle.codes.specs.Codes.{by_letter, technique_letter, constraint_digi
 
 use refusals::Fault;
 
-// The technique of the observations, or all of them combined. Techniques are ordered by their letters.
+// The technique of the observations, or all of them combined: the letters are the discriminants, and techniques are ordered by them.
 #[derive(Clone, Copy, PartialEq, Eq, PartialOrd, Ord, Debug)]
 pub enum Technique {
     Combined = b'C' as isize,
@@ -15,7 +15,7 @@ pub enum Technique {
     Vlbi = b'R' as isize,
 }
 
-// How tightly a parameter, or a solution, is constrained.
+// How tightly a parameter, or a solution, is constrained, by its digit.
 #[derive(Clone, Copy, PartialEq, Eq, Debug)]
 pub enum Constraint {
     Fixed = b'0' as isize,
@@ -23,7 +23,7 @@ pub enum Constraint {
     Unconstrained = b'2' as isize,
 }
 
-// What sort of parameters a solution has.
+// What sort of parameters a solution has, by its letter.
 #[derive(Clone, Copy, PartialEq, Eq, Debug)]
 pub enum Contents {
     Stations = b'S' as isize,
@@ -42,7 +42,7 @@ pub enum MatrixKind {
     Information,
 }
 
-// A code of one letter. What a letter gives is one answer, which says what the field of that one column is read as.
+// A code that a letter stands for. What `try_from` gives of a letter is one answer, `decode`.
 pub trait Code: TryFrom<u8, Error = Fault> {
     ghost use Rattle.std.specs.Prelude.{◌≡◌, ℕ, Result};
     ghost use Rattle.refusals.specs.declared.Fault.{Fault};

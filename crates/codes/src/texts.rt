@@ -1,5 +1,5 @@
 // Texts: kept on the left of a row of bytes that is filled up with blanks.
-ghost use Rattle.std.specs.Prelude.{◌≡◌, ◌+◌, ◌≤◌, length};
+ghost use Rattle.std.specs.Prelude.{◌≡◌, ◌≤◌, length};
 ghost use Rattle.codes.specs.Order.{lex, same_text};
 ghost use Rattle.codes.specs.Text.{word, padded, read_text, filled, read_description, check_blank};
 

@@ -1,6 +1,6 @@
 // The parameter types: a table, looked up by name.
-ghost use Rattle.std.specs.Prelude.{◌≡◌, ◌<◌, slice_index_or};
-ghost use Rattle.codes.specs.ParameterTypes.{types, no_type, type_named, check_type};
+ghost use Rattle.std.specs.Prelude.{◌≡◌};
+ghost use Rattle.codes.specs.ParameterTypes.{type_named, check_type};
 
 use crate::letters::Contents;
 use crate::texts::same_text;

@@ -1,5 +1,5 @@
 // Longitudes and latitudes in tenths of a second, heights in tenths of a metre: read and written.
-ghost use Rattle.std.specs.Prelude.{◌≡◌, ◌^◌, ◌<◌, ◌≤◌, true, Some, length};
+ghost use Rattle.std.specs.Prelude.{◌≡◌, ◌^◌, ◌<◌, true, Some, length};
 ghost use Rattle.decimals.specs.Number.{signed};
 ghost use Rattle.fields.specs.Angle.{angle, spaced, angle_rest, read_longitude, read_latitude, height, read_height, angle_text, height_text};
 

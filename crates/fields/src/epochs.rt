@@ -1,5 +1,5 @@
 // Epochs, YY:DDD:SSSSS: read, written and compared.
-ghost use Rattle.std.specs.Prelude.{◌≡◌, ◌^◌, ◌<◌, ◌≤◌, length};
+ghost use Rattle.std.specs.Prelude.{◌≡◌, ◌<◌};
 ghost use Rattle.fields.specs.Epoch.{epoch_at, read_epoch, read_moment, stamp, epoch_text, moment_text, moment_order, epoch_order};
 
 use decimals::numerals::read_numeral;

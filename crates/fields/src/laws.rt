@@ -1,5 +1,4 @@
 // What reading and writing the fields have to do with each other.
-ghost use Rattle.std.specs.Prelude.{◌≡◌};
 ghost use Rattle.fields.specs.Angle.{LongitudesComeBack, LatitudesComeBack, HeightsComeBack};
 ghost use Rattle.fields.specs.Count.{CountsComeBack};
 ghost use Rattle.fields.specs.Epoch.{EpochsComeBack, MomentsComeBack, OrderOfTime, EpochsAreOrdered};

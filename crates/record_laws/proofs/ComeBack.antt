@@ -1,5 +1,6 @@
 -- What is written of a valid record is read as it was. Assumes nothing.
-use Rattle.std.proofs.Common.{◌≡◌, ℕ, ◌<◌, List, [], ◌∷◌, length, get_or, ℤ, Some, None, Ok, Option, sym, refl, ap, ◌∙◌, subst}
+use Rattle.std.proofs.Common.{◌≡◌, ℕ, ◌<◌, List, [], ◌∷◌, length, get_or, ℤ, Some, None, Ok, Option, Result, sym, refl, ap, ◌∙◌, subst}
+use Rattle.refusals.specs.declared.Fault.{Fault}
 use Rattle.decimals.specs.Write.{Canonical}
 use Rattle.decimals.specs.declared.number.Number.{Number}
 use Rattle.headings.specs.Elements.{read_place, read_elements, place_parts, place_text, single_parts, single_text, matrix_parts, matrix_text}
@@ -27,14 +28,12 @@ use Rattle.codes.proofs.Phrases.{texts_come_back}
 use Rattle.codes.proofs.TypeTable.{types_come_back, types_are_named, types_are_texts}
 use Rattle.decimals.specs.Number.{read_number, read_deviation}
 use Rattle.decimals.proofs.Meaning.{numbers_come_back, deviations_come_back}
-use Rattle.fields.specs.Count.{read_count, count_text}
+use Rattle.fields.specs.Count.{read_count}
 use Rattle.fields.specs.Epoch.{read_epoch, read_moment}
 use Rattle.fields.proofs.Degrees.{counts_come_back}
 use Rattle.fields.proofs.Stamps.{epochs_come_back, moments_come_back}
 use Rattle.headings.specs.Copies.{agencies_parts, agencies_text, period_parts, period_text, letter_text, letters_text, header_parts, header_text}
-use Rattle.headings.specs.declared.headers.CountColumns.{CountColumns}
-use Rattle.headings.specs.declared.headers.CountColumns.TheVariants.{Read, Ignored}
-use Rattle.headings.specs.Headers.{read_agencies, read_period, check_letter, check_letters, read_counted, read_header_by}
+use Rattle.headings.specs.Headers.{read_agencies, read_period, check_letter, check_letters, read_header_by}
 use Rattle.headings.specs.Lines.{and_then}
 use Rattle.records.specs.Copies.{span_key_parts, span_key_text, epochs_parts, epochs_text, span_parts, span_text, parameter_key_parts, parameter_key_text, measure_parts, measure_text, unit_in, unit_of, parameter_parts, parameter_text}
 use Rattle.records.specs.Parameters.{read_parameter_key, read_measure, read_parameter, read_index}
@@ -315,25 +314,26 @@ header-fits h n l v = (
   ),
 )
 
-header-back : (how : CountColumns) (h : Header) (n m : ℕ) (l : List (Option Contents)) → ValidHeader h → read_counted how (count_text n) ≡ Ok m → read_header_by how (header_text h n l) ≡ Ok (h, m)
-header-back how h n m l v counted =
+header-back : {C : Type 0} (counted : Result C Fault) (m : C) (h : Header) (n : ℕ) (l : List (Option Contents)) → ValidHeader h → counted ≡ Ok m → read_header_by counted (header_text h n l) ≡ Ok (h, m)
+header-back counted m h n l v e =
     let at = part_at (10 ∷ 21 ∷ 26 ∷ 1 ∷ 1 ∷ 1 ∷ 5 ∷ 1 ∷ 1 ∷ 13 ∷ []) (header_parts h n l) (header-fits h n l v) in
     then_step (read_agencies (columns 10 31 (header_text h n l))) (h.file_agency, h.created, h.data_agency) _ (ap read_agencies (at 1) ∙ agencies_back h v) (
     then_step (read_period (columns 31 57 (header_text h n l))) (h.start, h.end) _ (ap read_period (at 2) ∙ period_back h v) (
     then_step (check_blank (columns 57 58 (header_text h n l))) tt _ (ap check_blank (at 3)) (
     then_step (read_technique (columns 58 59 (header_text h n l))) h.technique _ (ap read_technique (at 4) ∙ technique_back h.technique) (
     then_step (check_blank (columns 59 60 (header_text h n l))) tt _ (ap check_blank (at 5)) (
-    then_step (read_counted how (columns 60 65 (header_text h n l))) m _ (ap (read_counted how) (at 6) ∙ counted) (
+    then_step counted m _ e (
     then_step (check_blank (columns 65 66 (header_text h n l))) tt _ (ap check_blank (at 7)) (
     then_step (read_constraint (columns 66 67 (header_text h n l))) h.constraint _ (ap read_constraint (at 8) ∙ constraint_back h.constraint) (
     then_step (check_letters (columns 67 80 (header_text h n l))) tt _ (ap check_letters (at 9) ∙ letters-back l)
     refl))))))))
 
 pub headers_come_back : HeadersComeBack
-headers_come_back h n l v = (
-  then_step (read_header_by Ignored (header_text h n l)) (h, 0) _ (header-back Ignored h n 0 l v refl) refl,
-  λ small. header-back Read h n n l v (counts_come_back.1 n small).1,
-)
+headers_come_back h n l v =
+    let at = part_at (10 ∷ 21 ∷ 26 ∷ 1 ∷ 1 ∷ 1 ∷ 5 ∷ 1 ∷ 1 ∷ 13 ∷ []) (header_parts h n l) (header-fits h n l v) in (
+      then_step (read_header_by (Ok tt) (header_text h n l)) (h, tt) _ (header-back (Ok tt) tt h n l v refl) refl,
+      λ small. header-back (read_count (columns 60 65 (header_text h n l))) n h n l v (ap read_count (at 6) ∙ (counts_come_back.1 n small).1),
+    )
 
 -- ---- cells
 

@@ -1,6 +1,8 @@
 -- Lines made of parts of known widths: each part stands in its columns. Assumes nothing.
-use Rattle.std.proofs.Common.{◌≡◌, ℕ, zero, suc, ◌+◌, List, [], ◌∷◌, ◌++◌, length, get_or, take, drop, Ok, Result, refl, ap, ◌∙◌, subst, arith, length-append}
-use lib.Seq.{take-append_seam}
+use Rattle.std.proofs.Common.{◌≡◌, ℕ, zero, suc, ◌+◌, List, [], ◌∷◌, ◌++◌, length, get_or, take, drop, Ok, Result, refl, ap, ◌∙◌, subst, arith}
+use Rattle.std.proofs.Math.Seq.{drop-append-add, take-append_seam}
+use Rattle.std.specs.List.{sum}
+use Rattle.std.proofs.lemmas.Grind.{common_steps}
 use Rattle.refusals.specs.declared.Fault.{Fault}
 use Rattle.headings.specs.Copies.{joined}
 use Rattle.headings.specs.Lines.{and_then}
@@ -22,12 +24,6 @@ offset zero ws = 0
 offset (suc k) [] = 0
 offset (suc k) (w ∷ ws) = w + offset k ws
 
-drop_part : (p r : List ℕ) (n : ℕ) → drop (length p + n) (p ++ r) ≡ drop n r
-drop_part [] r n = ap (λ k. drop k r) (omega arith)
-drop_part (c ∷ p) r n =
-    let e : length (c ∷ p) + n ≡ suc (length p + n) = omega arith in
-    ap (λ k. drop k (c ∷ (p ++ r))) e ∙ drop_part p r n
-
 pub part_at : (ws : List ℕ) (ps : List (List ℕ)) → Fits ws ps → (k : ℕ) → take (get_or ws k 0) (drop (offset k ws) (joined ps)) ≡ get_or ps k []
 part_at [] [] f zero = refl
 part_at [] [] f (suc k) = refl
@@ -36,15 +32,11 @@ part_at (w ∷ ws) [] f k = absurd f
 part_at (w ∷ ws) (p ∷ ps) f zero = subst (λ n. take n (p ++ joined ps) ≡ p) f.0 (take-append_seam p (joined ps))
 part_at (w ∷ ws) (p ∷ ps) f (suc k) =
     subst (λ n. take (get_or ws k 0) (drop (n + offset k ws) (p ++ joined ps)) ≡ get_or ps k []) f.0
-    (ap (take (get_or ws k 0)) (drop_part p (joined ps) (offset k ws)) ∙ part_at ws ps f.1 k)
+    (ap (take (get_or ws k 0)) (drop-append-add p (joined ps) (offset k ws)) ∙ part_at ws ps f.1 k)
 
--- all the widths together
-abbrev pub sum : List ℕ → ℕ
-sum [] = 0
-sum (w ∷ ws) = w + sum ws
-
+-- the width of all parts together
 pub full_width : (ws : List ℕ) (ps : List (List ℕ)) → Fits ws ps → length (joined ps) ≡ sum ws
 full_width [] [] f = refl
 full_width [] (p ∷ ps) f = absurd f
 full_width (w ∷ ws) [] f = absurd f
-full_width (w ∷ ws) (p ∷ ps) f = length-append p (joined ps) ∙ ap (λ n. n + length (joined ps)) f.0 ∙ ap (λ n. w + n) (full_width ws ps f.1)
+full_width (w ∷ ws) (p ∷ ps) f = let rest = full_width ws ps f.1 in grind (arith, common_steps)

@@ -24,9 +24,7 @@ use Rattle.fields.specs.Count.{read_count}
 use Rattle.fields.proofs.Degrees.{counts_come_back}
 use Rattle.headings.specs.Elements.{read_place, read_element, read_elements}
 use Rattle.record_laws.specs.MatrixLaws.{ValidElement, ValidMatrixLine, MatrixLinesAreValid}
-use Rattle.headings.specs.declared.headers.CountColumns.{CountColumns}
-use Rattle.headings.specs.declared.headers.CountColumns.TheVariants.{Read, Ignored}
-use Rattle.headings.specs.Headers.{read_agencies, read_period, read_counted, check_letters, read_header_by}
+use Rattle.headings.specs.Headers.{read_agencies, read_period, check_letters, read_header_by}
 use Rattle.records.specs.Parameters.{read_parameter_key, read_measure}
 use Rattle.records.specs.Spans.{read_span_key, read_epochs}
 use Rattle.record_laws.specs.Valid.{ValidSpan, ValidParameterKey, ValidParameter, ValidHeader, SpansAreValid, ParametersAreValid, HeadersAreValid}
@@ -262,28 +260,29 @@ period_valid bs =
     then_holds Period (read_moment (columns 14 26 bs)) _ (λ end f.
     (moments_come_back.0 (columns 1 13 bs) start e, moments_come_back.0 (columns 14 26 bs) end f)))))
 
-abbrev WithCount : Header × ℕ → Type 0
+abbrev WithCount : {C : Type 0} → Header × C → Type 0
 WithCount h = ValidHeader h.0
 
-header_valid : (how : CountColumns) (line : List ℕ) → Printable line → Gives WithCount (read_header_by how line)
-header_valid how line p =
-    then_holds WithCount (read_agencies (columns 10 31 line)) _ (λ agencies e.
-    then_holds WithCount (read_period (columns 31 57 line)) _ (λ period f.
-    then_holds WithCount (check_blank (columns 57 58 line)) _ (λ _ _.
-    then_holds WithCount (read_technique (columns 58 59 line)) _ (λ _ _.
-    then_holds WithCount (check_blank (columns 59 60 line)) _ (λ _ _.
-    then_holds WithCount (read_counted how (columns 60 65 line)) _ (λ _ _.
-    then_holds WithCount (check_blank (columns 65 66 line)) _ (λ _ _.
-    then_holds WithCount (read_constraint (columns 66 67 line)) _ (λ _ _.
-    then_holds WithCount (check_letters (columns 67 80 line)) _ (λ _ _.
+header_valid : {C : Type 0} (counted : Result C Fault) (line : List ℕ) → Printable line → Gives (WithCount {C = C}) (read_header_by counted line)
+header_valid {C = C} counted line p =
+    let P : Header × C → Type 0 = WithCount {C = C} in
+    then_holds P (read_agencies (columns 10 31 line)) _ (λ agencies e.
+    then_holds P (read_period (columns 31 57 line)) _ (λ period f.
+    then_holds P (check_blank (columns 57 58 line)) _ (λ _ _.
+    then_holds P (read_technique (columns 58 59 line)) _ (λ _ _.
+    then_holds P (check_blank (columns 59 60 line)) _ (λ _ _.
+    then_holds P counted _ (λ _ _.
+    then_holds P (check_blank (columns 65 66 line)) _ (λ _ _.
+    then_holds P (read_constraint (columns 66 67 line)) _ (λ _ _.
+    then_holds P (check_letters (columns 67 80 line)) _ (λ _ _.
     let a : Agencies agencies = given Agencies (read_agencies (columns 10 31 line)) agencies e (agencies_valid (columns 10 31 line) (print_columns 10 31 line p)) in
     let (start, end) = given Period (read_period (columns 31 57 line)) period f (period_valid (columns 31 57 line)) in
     record { file = a.file; created = a.created; source = a.source; start = start; end = end })))))))))
 
 pub headers_are_valid : HeadersAreValid
 headers_are_valid line p = (
-  header_valid Read line p,
-  then_holds ValidHeader (read_header_by Ignored line) _ (λ h e. given WithCount (read_header_by Ignored line) h e (header_valid Ignored line p)),
+  header_valid (read_count (columns 60 65 line)) line p,
+  then_holds ValidHeader (read_header_by (Ok tt) line) _ (λ h e. given WithCount (read_header_by (Ok tt) line) h e (header_valid (Ok tt) line p)),
 )
 
 -- ---- matrix lines

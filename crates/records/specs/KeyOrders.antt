@@ -7,8 +7,7 @@ use Rattle.codes.proofs.Spellings.{codes_come_back}
 use Rattle.codes.specs.Codes.{read_technique}
 use Rattle.std.specs.Ordering.{ordering_then, nat_cmp}
 use Rattle.codes.specs.Order.{TotalOrder, lex}
-use Rattle.codes.proofs.Comparing.{then_flip, both, lex_order, rank_order}
-use Rattle.codes.proofs.Comparing.{then_order as then-after}
+use Rattle.codes.proofs.Comparing.{lex_order, rank_order, then_order}
 use Rattle.tables.specs.Keys.{Order}
 use Rattle.tables.proofs.Orders.{by_key}
 use Rattle.records.specs.Keys.{site_key_order, solution_key_order}
@@ -27,25 +26,16 @@ use Rattle.records.specs.declared.keys.SiteKey.{SiteKey}
 use Rattle.records.specs.declared.keys.SolutionKey.{SolutionKey}
 use Rattle.records.specs.declared.sites.Site.{Site}
 
--- by one part and then by another, where the two make up the whole
-pub then_total : {R A B : Type 0} (f : R → A) (g : R → B) (c : A → A → Ordering) (d : B → B → Ordering) → TotalOrder c → TotalOrder d
-    → ((x y : R) → f x ≡ f y → g x ≡ g y → x ≡ y) → TotalOrder (λ x y. ordering_then (c (f x) (f y)) (d (g x) (g y)))
-then_total f g c d oc od whole = record {
-  flip = λ x y. then_flip (c (f x) (f y)) (d (g x) (g y)) (c (f y) (f x)) (d (g y) (g x)) (oc.flip (f x) (f y)) (od.flip (g x) (g y));
-  trans = λ x y z. then-after c d oc od (f x) (f y) (f z) (g x) (g y) (g z);
-  same = λ x y e. let (p, q) = both (c (f x) (f y)) (d (g x) (g y)) e in whole x y (oc.same (f x) (f y) p) (od.same (g x) (g y) q);
-}
-
 -- a total order of keys is an order of what has them
 pub order_of : {R K : Type 0} (key : R → K) (c : K → K → Ordering) → TotalOrder c → Order (λ x y. c (key x) (key y))
 order_of key c o = by_key key c (record { flip = o.flip; trans = o.trans; alike = λ x y z e. ap (λ t. c t z) (o.same x y e) })
 
 pub site_keys : TotalOrder site_key_order
-site_keys = then_total (λ (x : SiteKey). x.code) (λ x. x.point) lex lex lex_order lex_order
+site_keys = then_order (λ (x : SiteKey). x.code) (λ x. x.point) lex lex lex_order lex_order
     (λ x y p q. ap (λ t. record { code = t; point = x.point }) p ∙ ap (λ t. record { code = y.code; point = t }) q)
 
 pub solution_keys : TotalOrder solution_key_order
-solution_keys = then_total (λ (x : SolutionKey). x.site) (λ x. x.solution) site_key_order lex site_keys lex_order
+solution_keys = then_order (λ (x : SolutionKey). x.site) (λ x. x.solution) site_key_order lex site_keys lex_order
     (λ x y p q. ap (λ t. record { site = t; solution = x.solution }) p ∙ ap (λ t. record { site = y.site; solution = t }) q)
 
 pub site_order_lem : Order site_order
@@ -69,7 +59,7 @@ letters = record {
 }
 
 pub span_keys : TotalOrder span_key_order
-span_keys = then_total (λ (x : SpanKey). x.at) (λ x. x.technique) solution_key_order (λ t u. nat_cmp (technique_letter t) (technique_letter u)) solution_keys letters
+span_keys = then_order (λ (x : SpanKey). x.at) (λ x. x.technique) solution_key_order (λ t u. nat_cmp (technique_letter t) (technique_letter u)) solution_keys letters
     (λ x y p q. ap (λ t. record { at = t; technique = x.technique }) p ∙ ap (λ t. record { at = y.at; technique = t }) q)
 
 pub span_order_lem : Order span_order
@@ -77,11 +67,11 @@ span_order_lem = order_of (λ (x : Span). x.key) span_key_order span_keys
 
 -- the name and the epoch, as one part of a key
 name-epoch : TotalOrder (λ (x y : List ℕ × Epoch). ordering_then (lex x.0 y.0) (epoch_order x.1 y.1))
-name-epoch = then_total (λ (x : List ℕ × Epoch). x.0) (λ x. x.1) lex epoch_order lex_order epochs_are_ordered
+name-epoch = then_order (λ (x : List ℕ × Epoch). x.0) (λ x. x.1) lex epoch_order lex_order epochs_are_ordered
     (λ x y p q. ap (λ t. (t, x.1)) p ∙ ap (λ t. (y.0, t)) q)
 
 pub parameter_keys : TotalOrder parameter_key_order
-parameter_keys = then_total (λ (x : ParameterKey). x.at) (λ x. (x.name, x.epoch)) solution_key_order (λ x y. ordering_then (lex x.0 y.0) (epoch_order x.1 y.1)) solution_keys name-epoch
+parameter_keys = then_order (λ (x : ParameterKey). x.at) (λ x. (x.name, x.epoch)) solution_key_order (λ x y. ordering_then (lex x.0 y.0) (epoch_order x.1 y.1)) solution_keys name-epoch
     (λ x y p q. ap (λ t. record { at = t; name = x.name; epoch = x.epoch }) p ∙ ap (λ t. record { at = y.at; name = t.0; epoch = t.1 }) q)
 
 pub parameter_order_lem : Order parameter_order

@@ -20,7 +20,7 @@ use Rattle.fields.specs.Count.{read_count}
 use Rattle.fields.specs.Epoch.{read_epoch, epoch_order}
 use Rattle.fields.specs.declared.epochs.Epoch.TheVariants.{Open}
 use Rattle.headings.specs.Lines.{and_then}
-use Rattle.records.specs.Keys.{solution_key_order, blank_solution_key, read_solution_key, pick_solution_key}
+use Rattle.records.specs.Keys.{solution_key_order, blank_solution_key, not_looked_at, solution_key_by}
 use Rattle.records.specs.declared.parameters.ParameterKey.{ParameterKey}
 use Rattle.records.specs.declared.parameters.Parameter.{Parameter}
 
@@ -37,16 +37,20 @@ parameter_with key = record { key = key; constraint = Fixed; value = zero_number
 abbrev pub blank_parameter : Parameter
 blank_parameter = parameter_with (record { at = blank_solution_key; name = replicate 6 32; epoch = Open })
 
--- blank, type, blank, a solution's columns, blank, epoch
-abbrev pub read_parameter_key : List ℕ → Result ParameterKey Fault
-read_parameter_key bs =
-    and_then (check_blank (columns 0 1 bs)) (λ _.
+-- type, a solution's columns, epoch, each after a column between
+abbrev pub parameter_key_by : (List ℕ → Result (Unit {0}) Fault) → List ℕ → Result ParameterKey Fault
+parameter_key_by between bs =
+    and_then (between (columns 0 1 bs)) (λ _.
     and_then (read_text 6 (columns 1 7 bs)) (λ name.
-    and_then (check_blank (columns 7 8 bs)) (λ _.
-    and_then (read_solution_key (columns 8 20 bs)) (λ at.
-    and_then (check_blank (columns 20 21 bs)) (λ _.
+    and_then (between (columns 7 8 bs)) (λ _.
+    and_then (solution_key_by between (columns 8 20 bs)) (λ at.
+    and_then (between (columns 20 21 bs)) (λ _.
     and_then (read_epoch (columns 21 33 bs)) (λ epoch.
     Ok (record { at = at; name = name; epoch = epoch })))))))
+
+-- with blanks between
+abbrev pub read_parameter_key : List ℕ → Result ParameterKey Fault
+read_parameter_key bs = parameter_key_by check_blank bs
 
 -- constraint, blank, value, blank, deviation
 abbrev pub read_measure : List ℕ → Result (Constraint × Number × Deviation) Fault
@@ -88,11 +92,7 @@ type_of name = found_type (type_named name)
 
 -- the columns after the index with those between the codes not looked at
 abbrev pub pick_parameter_key : List ℕ → Result ParameterKey Fault
-pick_parameter_key bs =
-    and_then (read_text 6 (columns 1 7 bs)) (λ name.
-    and_then (pick_solution_key (columns 8 20 bs)) (λ at.
-    and_then (read_epoch (columns 21 33 bs)) (λ epoch.
-    Ok (record { at = at; name = name; epoch = epoch }))))
+pick_parameter_key bs = parameter_key_by not_looked_at bs
 
 -- a parameter known by the key that a line names, of a type of the table, and blank otherwise
 abbrev pub parameter_named : List ℕ → Result Parameter Fault

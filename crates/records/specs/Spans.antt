@@ -11,7 +11,7 @@ use Rattle.fields.specs.Epoch.{read_epoch}
 use Rattle.fields.specs.declared.epochs.Epoch.{Epoch}
 use Rattle.fields.specs.declared.epochs.Epoch.TheVariants.{Open}
 use Rattle.headings.specs.Lines.{and_then}
-use Rattle.records.specs.Keys.{solution_key_order, blank_solution_key, read_solution_key, pick_solution_key}
+use Rattle.records.specs.Keys.{solution_key_order, blank_solution_key, not_looked_at, solution_key_by}
 use Rattle.records.specs.declared.spans.SpanKey.{SpanKey}
 use Rattle.records.specs.declared.spans.Span.{Span}
 
@@ -29,13 +29,17 @@ span_with key = record { key = key; start = Open; end = Open; mean = Open }
 abbrev pub blank_span : Span
 blank_span = span_with (record { at = blank_solution_key; technique = Combined })
 
--- a solution's columns, blank, technique
-abbrev pub read_span_key : List ℕ → Result SpanKey Fault
-read_span_key bs =
-    and_then (read_solution_key (columns 0 12 bs)) (λ at.
-    and_then (check_blank (columns 12 13 bs)) (λ _.
+-- a solution's columns, a column between, technique
+abbrev pub span_key_by : (List ℕ → Result (Unit {0}) Fault) → List ℕ → Result SpanKey Fault
+span_key_by between bs =
+    and_then (solution_key_by between (columns 0 12 bs)) (λ at.
+    and_then (between (columns 12 13 bs)) (λ _.
     and_then (read_technique (columns 13 14 bs)) (λ technique.
     Ok (record { at = at; technique = technique }))))
+
+-- with blanks between
+abbrev pub read_span_key : List ℕ → Result SpanKey Fault
+read_span_key bs = span_key_by check_blank bs
 
 -- start, end and mean, each after a blank column, and blanks to the end
 abbrev pub read_epochs : List ℕ → Result (Epoch × Epoch × Epoch) Fault
@@ -57,10 +61,7 @@ read_span line =
 
 -- the same columns with those between the codes not looked at
 abbrev pub pick_span_key : List ℕ → Result SpanKey Fault
-pick_span_key bs =
-    and_then (pick_solution_key (columns 0 12 bs)) (λ at.
-    and_then (read_technique (columns 13 14 bs)) (λ technique.
-    Ok (record { at = at; technique = technique })))
+pick_span_key bs = span_key_by not_looked_at bs
 
 -- a span known by the key that a line names, and blank otherwise
 abbrev pub span_named : List ℕ → Result Span Fault

@@ -1,41 +1,36 @@
 // What sites, spans and parameters are known by.
 ghost use Rattle.std.specs.Prelude.{◌≡◌, ◌≤◌, length};
-ghost use Rattle.records.specs.Keys.{site_key_order, solution_key_order, read_site_key, read_solution_key, pick_site_key, pick_solution_key, blank_site_key, blank_solution_key};
+ghost use Rattle.records.specs.Keys.{site_key_order, solution_key_order, site_key_by, solution_key_by, blank_site_key, blank_solution_key};
 ghost use Rattle.records.specs.Copies.{site_key_text, solution_key_text};
 
-use codes::orders::then_by;
-use codes::texts::{check_blank, compare_text, read_text};
+use codes::texts::{check_blank, read_text};
 use refusals::Fault;
 use std::cmp::Ordering;
 
-// A site: its code, and the code of a point there.
-#[derive(Clone, Copy)]
+// A site: its code, and the code of a point there. Sites are ordered by both.
+#[derive(Clone, Copy, PartialEq, Eq, PartialOrd, Ord, Debug)]
 pub struct SiteKey {
     pub code: [u8; 4],
     pub point: [u8; 2],
 }
 
-// A solution at a site: what a parameter of a station needs a span of.
-#[derive(Clone, Copy)]
+// A solution at a site: what a parameter of a station needs a span of. Solutions are ordered by site first.
+#[derive(Clone, Copy, PartialEq, Eq, PartialOrd, Ord, Debug)]
 pub struct SolutionKey {
     pub site: SiteKey,
     pub solution: [u8; 4],
 }
 
-pub fn compare_site_keys(a: &SiteKey, b: &SiteKey) -> Ordering
-    ensures { result ≡ site_key_order a.now b.now }
+pub fn compare_site_keys(site: &SiteKey, other: &SiteKey) -> Ordering
+    ensures { result ≡ site_key_order site.now other.now }
 {
-    let code = compare_text(&a.code, &b.code);
-    let point = compare_text(&a.point, &b.point);
-    then_by(code, point)
+    site.cmp(other)
 }
 
-pub fn compare_solution_keys(a: &SolutionKey, b: &SolutionKey) -> Ordering
-    ensures { result ≡ solution_key_order a.now b.now }
+pub fn compare_solution_keys(solution: &SolutionKey, other: &SolutionKey) -> Ordering
+    ensures { result ≡ solution_key_order solution.now other.now }
 {
-    let site = compare_site_keys(&a.site, &b.site);
-    let solution = compare_text(&a.solution, &b.solution);
-    then_by(site, solution)
+    solution.cmp(other)
 }
 
 impl SiteKey {
@@ -62,44 +57,61 @@ impl SolutionKey {
     }
 }
 
-// A site code, a blank column and a point code: seven columns.
-pub(crate) fn read_site_columns(columns: &[u8]) -> Result<SiteKey, Fault>
+// What is done with the columns between the codes of a key.
+pub(crate) trait Between {
+    ghost use Rattle.std.specs.Prelude.{◌≡◌, ℕ, List, Result};
+    ghost use Rattle.refusals.specs.declared.Fault.{Fault};
+
+    ghost check: { List ℕ → Result (Unit {0}) Fault };
+
+    fn check(columns: &[u8]) -> Result<(), Fault>
+        ensures { result ≡ check columns.now };
+}
+
+// They have to be blank.
+pub(crate) struct Blank;
+
+// They are not looked at.
+pub(crate) struct Ignored;
+
+impl Between for Blank {
+    ghost use Rattle.codes.specs.Text.{check_blank};
+
+    ghost check = { check_blank };
+
+    fn check(columns: &[u8]) -> Result<(), Fault> {
+        check_blank(columns)
+    }
+}
+
+impl Between for Ignored {
+    ghost use Rattle.records.specs.Keys.{not_looked_at};
+
+    ghost check = { not_looked_at };
+
+    fn check(_columns: &[u8]) -> Result<(), Fault> {
+        Ok(())
+    }
+}
+
+// A site code, a column between and a point code: seven columns.
+pub(crate) fn read_site_columns<B: Between>(columns: &[u8]) -> Result<SiteKey, Fault>
     requires { 7 ≤ length columns.now }
-    ensures { result ≡ read_site_key columns.now }
+    ensures { result ≡ site_key_by B.check columns.now }
 {
     let code = read_text(&columns[0..4])?;
-    check_blank(&columns[4..5])?;
+    B::check(&columns[4..5])?;
     let point = read_text(&columns[5..7])?;
     Ok(SiteKey { code, point })
 }
 
-// A site's seven columns, a blank column and the number of a solution: twelve columns.
-pub(crate) fn read_solution_columns(columns: &[u8]) -> Result<SolutionKey, Fault>
+// A site's seven columns, a column between and the number of a solution: twelve columns.
+pub(crate) fn read_solution_columns<B: Between>(columns: &[u8]) -> Result<SolutionKey, Fault>
     requires { 12 ≤ length columns.now }
-    ensures { result ≡ read_solution_key columns.now }
+    ensures { result ≡ solution_key_by B.check columns.now }
 {
-    let site = read_site_columns(&columns[0..7])?;
-    check_blank(&columns[7..8])?;
-    let solution = read_text(&columns[8..12])?;
-    Ok(SolutionKey { site, solution })
-}
-
-// The same seven columns, with the one between the codes not looked at.
-pub(crate) fn pick_site_columns(columns: &[u8]) -> Result<SiteKey, Fault>
-    requires { 7 ≤ length columns.now }
-    ensures { result ≡ pick_site_key columns.now }
-{
-    let code = read_text(&columns[0..4])?;
-    let point = read_text(&columns[5..7])?;
-    Ok(SiteKey { code, point })
-}
-
-// The same twelve columns, with those between the codes not looked at.
-pub(crate) fn pick_solution_columns(columns: &[u8]) -> Result<SolutionKey, Fault>
-    requires { 12 ≤ length columns.now }
-    ensures { result ≡ pick_solution_key columns.now }
-{
-    let site = pick_site_columns(&columns[0..7])?;
+    let site = read_site_columns::<B>(&columns[0..7])?;
+    B::check(&columns[7..8])?;
     let solution = read_text(&columns[8..12])?;
     Ok(SolutionKey { site, solution })
 }

@@ -1,28 +1,26 @@
 // Parameters: what is estimated, or taken for known beforehand, of a site, of the earth's rotation and of more.
 ghost use Rattle.std.specs.Prelude.{◌≡◌, length};
-ghost use Rattle.records.specs.Parameters.{type_of, read_parameter_key, pick_parameter_key, read_measure, read_parameter, read_index, read_indexed, parameter_named, parameter_key_order, parameter_order, blank_parameter};
+ghost use Rattle.records.specs.Parameters.{type_of, parameter_key_by, read_measure, read_parameter, read_index, read_indexed, parameter_named, parameter_order, blank_parameter};
 ghost use Rattle.records.specs.Copies.{parameter_key_text, measure_text, unit_of, parameter_text};
 ghost use Rattle.records.specs.KeyOrders.{parameter_order_lem};
 
 use crate::keys::{
-    SolutionKey, compare_solution_keys, pick_solution_columns, read_solution_columns,
-    write_solution_columns,
+    Between, Blank, Ignored, SolutionKey, read_solution_columns, write_solution_columns,
 };
-use codes::letters::{Constraint, read_constraint};
-use codes::orders::then_by;
-use codes::texts::{check_blank, compare_text, read_text};
+use codes::letters::{Constraint, read_code};
+use codes::texts::{check_blank, read_text};
 use codes::types::{ParameterType, check_type, find_type};
 use decimals::number::{Deviation, Number};
 use decimals::reads::{read_deviation, read_number};
 use decimals::writes::{write_deviation, write_number};
 use fields::counts::{read_count, write_index};
-use fields::epochs::{Epoch, compare_epochs, read_epoch, write_epoch};
+use fields::epochs::{Epoch, read_epoch, write_epoch};
 use refusals::Fault;
 use std::cmp::Ordering;
 use tables::table::Record;
 
 // What a parameter is known by: where, the name of its type, and when.
-#[derive(Clone, Copy)]
+#[derive(Clone, Copy, PartialEq, Eq, PartialOrd, Ord, Debug)]
 pub struct ParameterKey {
     pub at: SolutionKey,
     pub name: [u8; 6],
@@ -38,15 +36,6 @@ pub struct Parameter {
     pub deviation: Deviation,
 }
 
-fn compare_parameter_keys(a: &ParameterKey, b: &ParameterKey) -> Ordering
-    ensures { result ≡ parameter_key_order a.now b.now }
-{
-    let at = compare_solution_keys(&a.at, &b.at);
-    let name = compare_text(&a.name, &b.name);
-    let epoch = compare_epochs(&a.epoch, &b.epoch);
-    then_by(at, then_by(name, epoch))
-}
-
 // Parameters in the order of site, point, solution, type and epoch. The blank parameter has the first constraint, Fixed.
 impl Record for Parameter {
     ghost order = { parameter_order };
@@ -56,7 +45,7 @@ impl Record for Parameter {
     ghost lawful = { parameter_order_lem };
 
     fn compare(&self, other: &Parameter) -> Ordering {
-        compare_parameter_keys(&self.key, &other.key)
+        self.key.cmp(&other.key)
     }
 
     fn blank() -> Parameter {
@@ -67,29 +56,22 @@ impl Record for Parameter {
                 epoch: Epoch::Open,
             },
             constraint: Constraint::Fixed,
-            value: Number {
-                negative: false,
-                mantissa: 0,
-                exponent: 0,
-            },
-            deviation: Deviation {
-                mantissa: 0,
-                exponent: 0,
-            },
+            value: Number::ZERO,
+            deviation: Deviation::ZERO,
         }
     }
 }
 
-// The type's name, a solution's twelve columns and an epoch, each with a blank column before it: the columns after the index.
-fn read_parameter_columns(columns: &[u8]) -> Result<ParameterKey, Fault>
+// The type's name, a solution's twelve columns and an epoch, each with a column before it: the 33 columns after the index.
+fn read_parameter_columns<B: Between>(columns: &[u8]) -> Result<ParameterKey, Fault>
     requires { length columns.now ≡ 33 }
-    ensures { result ≡ read_parameter_key columns.now }
+    ensures { result ≡ parameter_key_by B.check columns.now }
 {
-    check_blank(&columns[0..1])?;
+    B::check(&columns[0..1])?;
     let name = read_text(&columns[1..7])?;
-    check_blank(&columns[7..8])?;
-    let at = read_solution_columns(&columns[8..20])?;
-    check_blank(&columns[20..21])?;
+    B::check(&columns[7..8])?;
+    let at = read_solution_columns::<B>(&columns[8..20])?;
+    B::check(&columns[20..21])?;
     let epoch = read_epoch(&columns[21..33])?;
     Ok(ParameterKey { at, name, epoch })
 }
@@ -99,7 +81,7 @@ fn read_measure(columns: &[u8]) -> Result<(Constraint, Number, Deviation), Fault
     requires { length columns.now ≡ 35 }
     ensures { result ≡ read_measure columns.now }
 {
-    let constraint = read_constraint(&columns[0..1])?;
+    let constraint = read_code(&columns[0..1])?;
     check_blank(&columns[1..2])?;
     let value = read_number(&columns[2..23])?;
     check_blank(&columns[23..24])?;
@@ -111,7 +93,7 @@ fn read_measure(columns: &[u8]) -> Result<(Constraint, Number, Deviation), Fault
 pub fn read_parameter(line: &[u8; 80]) -> Result<Parameter, Fault>
     ensures { result ≡ read_parameter line.now }
 {
-    let key = read_parameter_columns(&line[6..39])?;
+    let key = read_parameter_columns::<Blank>(&line[6..39])?;
     check_blank(&line[39..40])?;
     let unit: [u8; 4] = read_text(&line[40..44])?;
     check_blank(&line[44..45])?;
@@ -144,32 +126,19 @@ pub fn read_indexed_parameter(line: &[u8; 80]) -> Result<(u32, Parameter), Fault
 fn known_type(name: &[u8]) -> Result<ParameterType, Fault>
     ensures { result ≡ type_of name.now }
 {
-    match find_type(name) {
-        Some(t) => Ok(t),
-        None => Err(Fault::WrongType),
-    }
-}
-
-// The columns after the index, with those between the codes not looked at.
-fn pick_parameter_columns(columns: &[u8]) -> Result<ParameterKey, Fault>
-    requires { length columns.now ≡ 33 }
-    ensures { result ≡ pick_parameter_key columns.now }
-{
-    let name = read_text(&columns[1..7])?;
-    let at = pick_solution_columns(&columns[8..20])?;
-    let epoch = read_epoch(&columns[21..33])?;
-    Ok(ParameterKey { at, name, epoch })
+    find_type(name).ok_or(Fault::WrongType)
 }
 
 // A blank parameter with the key that a data line names; only the columns of the key's codes and epoch are looked at.
 pub fn read_parameter_key(line: &[u8; 80]) -> Result<Parameter, Fault>
     ensures { result ≡ parameter_named line.now }
 {
-    let key = pick_parameter_columns(&line[6..39])?;
+    let key = read_parameter_columns::<Ignored>(&line[6..39])?;
     known_type(&key.name)?;
-    let mut parameter = <Parameter as Record>::blank();
-    parameter.key = key;
-    Ok(parameter)
+    Ok(Parameter {
+        key,
+        ..Parameter::blank()
+    })
 }
 
 fn write_parameter_columns(k: &ParameterKey) -> [u8; 33]
@@ -192,7 +161,7 @@ fn write_measure(p: &Parameter) -> [u8; 35]
     out
 }
 
-// The unit of a type of the table; blank for another name.
+// The unit of a type of the table; blank for another name. A match: of a closure that gives an array out of a struct the check learns nothing.
 fn unit_of(name: &[u8]) -> [u8; 4]
     ensures { result ≡ unit_of name.now }
 {

@@ -4,10 +4,8 @@ ghost use Rattle.records.specs.Sites.{read_position, read_site, site_named, blan
 ghost use Rattle.records.specs.Copies.{position_text, site_text};
 ghost use Rattle.records.specs.KeyOrders.{site_order_lem};
 
-use crate::keys::{
-    SiteKey, compare_site_keys, pick_site_columns, read_site_columns, write_site_columns,
-};
-use codes::letters::{Technique, read_technique};
+use crate::keys::{Blank, Ignored, SiteKey, read_site_columns, write_site_columns};
+use codes::letters::{Technique, read_code};
 use codes::texts::{check_blank, read_description, read_text};
 use fields::angles::{read_height, read_latitude, read_longitude, write_angle, write_height};
 use refusals::Fault;
@@ -35,7 +33,7 @@ impl Record for Site {
     ghost lawful = { site_order_lem };
 
     fn compare(&self, other: &Site) -> Ordering {
-        compare_site_keys(&self.key, &other.key)
+        self.key.cmp(&other.key)
     }
 
     fn blank() -> Site {
@@ -69,11 +67,11 @@ fn read_position(columns: &[u8]) -> Result<(i32, i32, i32), Fault>
 pub fn read_site(line: &[u8; 80]) -> Result<Site, Fault>
     ensures { result ≡ read_site line.now }
 {
-    let key = read_site_columns(&line[1..8])?;
+    let key = read_site_columns::<Blank>(&line[1..8])?;
     check_blank(&line[8..9])?;
     let monument = read_text(&line[9..18])?;
     check_blank(&line[18..19])?;
-    let technique = read_technique(&line[19..20])?;
+    let technique = read_code(&line[19..20])?;
     check_blank(&line[20..21])?;
     let description = read_description(&line[21..43])?;
     check_blank(&line[43..44])?;
@@ -93,9 +91,11 @@ pub fn read_site(line: &[u8; 80]) -> Result<Site, Fault>
 pub fn read_site_key(line: &[u8; 80]) -> Result<Site, Fault>
     ensures { result ≡ site_named line.now }
 {
-    let mut site = <Site as Record>::blank();
-    site.key = pick_site_columns(&line[1..8])?;
-    Ok(site)
+    let key = read_site_columns::<Ignored>(&line[1..8])?;
+    Ok(Site {
+        key,
+        ..Site::blank()
+    })
 }
 
 // A longitude, a latitude and a height, in 36 columns.

@@ -1,23 +1,21 @@
 // Spans: when a solution at a site has observations of a technique.
 ghost use Rattle.std.specs.Prelude.{◌≡◌, length};
-ghost use Rattle.records.specs.Spans.{read_span, read_span_key, pick_span_key, read_epochs, span_named, span_key_order, span_order, blank_span};
+ghost use Rattle.records.specs.Spans.{read_span, span_key_by, read_epochs, span_named, span_order, blank_span};
 ghost use Rattle.records.specs.Copies.{span_key_text, epochs_text, span_text};
 ghost use Rattle.records.specs.KeyOrders.{span_order_lem};
 
 use crate::keys::{
-    SolutionKey, compare_solution_keys, pick_solution_columns, read_solution_columns,
-    write_solution_columns,
+    Between, Blank, Ignored, SolutionKey, read_solution_columns, write_solution_columns,
 };
-use codes::letters::{Technique, read_technique};
-use codes::orders::{compare_numbers, then_by};
+use codes::letters::{Technique, read_code};
 use codes::texts::check_blank;
 use fields::epochs::{Epoch, read_epoch, write_epoch};
 use refusals::Fault;
 use std::cmp::Ordering;
 use tables::table::Record;
 
-// What a span is known by.
-#[derive(Clone, Copy)]
+// What a span is known by. Techniques compare by their letters.
+#[derive(Clone, Copy, PartialEq, Eq, PartialOrd, Ord, Debug)]
 pub struct SpanKey {
     pub at: SolutionKey,
     pub technique: Technique,
@@ -31,15 +29,6 @@ pub struct Span {
     pub mean: Epoch,
 }
 
-// Techniques compare by their letters.
-fn compare_span_keys(a: &SpanKey, b: &SpanKey) -> Ordering
-    ensures { result ≡ span_key_order a.now b.now }
-{
-    let at = compare_solution_keys(&a.at, &b.at);
-    let technique = compare_numbers(a.technique.letter() as u32, b.technique.letter() as u32);
-    then_by(at, technique)
-}
-
 // Spans in the order of site, point, solution and technique. The blank span has the first technique, Combined.
 impl Record for Span {
     ghost order = { span_order };
@@ -49,7 +38,7 @@ impl Record for Span {
     ghost lawful = { span_order_lem };
 
     fn compare(&self, other: &Span) -> Ordering {
-        compare_span_keys(&self.key, &other.key)
+        self.key.cmp(&other.key)
     }
 
     fn blank() -> Span {
@@ -65,14 +54,14 @@ impl Record for Span {
     }
 }
 
-// A solution's twelve columns, a blank column and a technique.
-fn read_span_columns(columns: &[u8]) -> Result<SpanKey, Fault>
+// A solution's twelve columns, a column between and a technique: fourteen columns.
+fn read_span_columns<B: Between>(columns: &[u8]) -> Result<SpanKey, Fault>
     requires { length columns.now ≡ 14 }
-    ensures { result ≡ read_span_key columns.now }
+    ensures { result ≡ span_key_by B.check columns.now }
 {
-    let at = read_solution_columns(&columns[0..12])?;
-    check_blank(&columns[12..13])?;
-    let technique = read_technique(&columns[13..14])?;
+    let at = read_solution_columns::<B>(&columns[0..12])?;
+    B::check(&columns[12..13])?;
+    let technique = read_code(&columns[13..14])?;
     Ok(SpanKey { at, technique })
 }
 
@@ -95,7 +84,7 @@ fn read_epochs(columns: &[u8]) -> Result<(Epoch, Epoch, Epoch), Fault>
 pub fn read_span(line: &[u8; 80]) -> Result<Span, Fault>
     ensures { result ≡ read_span line.now }
 {
-    let key = read_span_columns(&line[1..15])?;
+    let key = read_span_columns::<Blank>(&line[1..15])?;
     let (start, end, mean) = read_epochs(&line[15..80])?;
     Ok(Span {
         key,
@@ -105,23 +94,15 @@ pub fn read_span(line: &[u8; 80]) -> Result<Span, Fault>
     })
 }
 
-// The same fourteen columns, with those between the codes not looked at.
-fn pick_span_columns(columns: &[u8]) -> Result<SpanKey, Fault>
-    requires { length columns.now ≡ 14 }
-    ensures { result ≡ pick_span_key columns.now }
-{
-    let at = pick_solution_columns(&columns[0..12])?;
-    let technique = read_technique(&columns[13..14])?;
-    Ok(SpanKey { at, technique })
-}
-
 // A blank span with the key that a data line names; only the columns of the key's codes are looked at.
 pub fn read_span_key(line: &[u8; 80]) -> Result<Span, Fault>
     ensures { result ≡ span_named line.now }
 {
-    let mut span = <Span as Record>::blank();
-    span.key = pick_span_columns(&line[1..15])?;
-    Ok(span)
+    let key = read_span_columns::<Ignored>(&line[1..15])?;
+    Ok(Span {
+        key,
+        ..Span::blank()
+    })
 }
 
 fn write_span_columns(k: &SpanKey) -> [u8; 14]
