@@ -2,11 +2,10 @@
 // Its arguments are `inserts` or `ranks`, how many, and how often. It prints a sum over what it made, and the time to standard error.
 #![tactic(auto)]
 
-ghost use Rattle.std.specs.Prelude.{◌≡◌, true, eqb, refl};
+ghost use Rattle.std.specs.Prelude.{refl};
+ghost use Rattle.std.proofs.lemmas.Cmp.{nat_cmp_total, on_total};
 ghost use Rattle.storagebench.specs.Samples.{row_order, bare_row, zero_value, is_zero};
-ghost use Rattle.tables.proofs.Orders.{by_key, rank_order};
 ghost use Rattle.storagebench.specs.declared.Row.{Row};
-ghost use Rattle.std.specs.Ordering.{nat_cmp};
 
 use std::alloc::{AllocError, Global};
 use std::cmp::Ordering;
@@ -28,16 +27,10 @@ impl Record for Row {
 
     ghost bare = { bare_row };
 
-    ghost lawful = { by_key (λ (x : Row). x.code) nat_cmp rank_order };
+    ghost lawful = { on_total (λ (x : Row). x.code) nat_cmp_total };
 
     fn compare(&self, other: &Row) -> Ordering {
-        if self.code < other.code {
-            Ordering::Less
-        } else if self.code == other.code {
-            Ordering::Equal
-        } else {
-            Ordering::Greater
-        }
+        self.code.cmp(&other.code)
     }
 
     fn blank() -> Row {
@@ -90,15 +83,11 @@ fn insert_all(rows: &mut [Row], n: usize) -> usize {
     let mut x = 88172645463325252u64;
     for _ in 0..n {
         x = scatter(x);
-        let code = x;
-        if let Ok(more) = put_in(
-            rows,
-            used,
-            Row {
-                code,
-                fields: [code; 7],
-            },
-        ) {
+        let row = Row {
+            code: x,
+            fields: [x; 7],
+        };
+        if let Ok(more) = put_in(rows, used, row) {
             used = more;
         }
     }
@@ -106,20 +95,14 @@ fn insert_all(rows: &mut [Row], n: usize) -> usize {
 }
 
 fn row_sum(rows: &[Row]) -> u64 {
-    let mut sum = 0u64;
-    for (i, r) in rows.iter().enumerate() {
-        sum = sum
-            .wrapping_add(r.code.wrapping_mul(i as u64))
-            .wrapping_add(r.fields[6]);
-    }
-    sum
+    rows.iter().enumerate().fold(0u64, |sum, (i, r)| {
+        sum.wrapping_add(r.code.wrapping_mul(i as u64))
+            .wrapping_add(r.fields[6])
+    })
 }
 
 fn inserts(rt: &HostRuntime, n: usize, times: usize) -> anyhow::Result<()> {
-    let mut rows: Vec<Row> = vec![in rt.alloc(); Row {
-        code: 0,
-        fields: [0; 7]
-    }; n]?;
+    let mut rows: Vec<Row> = vec![in rt.alloc(); Row::blank(); n]?;
     let start = Instant::now(rt)?;
     let mut used = 0;
     for _ in 0..times {
@@ -132,7 +115,7 @@ fn inserts(rt: &HostRuntime, n: usize, times: usize) -> anyhow::Result<()> {
     Ok(())
 }
 
-// Fills the triangle, then closes and opens ranks of all its n ranks: how many calls were granted.
+// Closes ranks of a full triangle of n ranks, and opens each again: how many calls were granted.
 fn turn_ranks(cells: &mut [Value], n: usize, times: usize) -> usize {
     let mut granted = 0usize;
     for k in 0..times {
@@ -149,9 +132,9 @@ fn turn_ranks(cells: &mut [Value], n: usize, times: usize) -> usize {
 
 fn fill_cells(cells: &mut [Value]) {
     let mut x = 88172645463325252u64;
-    for i in 0..cells.len() {
+    for cell in cells {
         x = scatter(x);
-        cells[i] = Value {
+        *cell = Value {
             mantissa: x >> 8,
             exponent: 3,
             negative: x & 1 == 1,
@@ -160,20 +143,14 @@ fn fill_cells(cells: &mut [Value]) {
 }
 
 fn cell_sum(cells: &[Value]) -> u64 {
-    let mut sum = 0u64;
-    for (i, c) in cells.iter().enumerate() {
-        sum = sum.wrapping_add(c.mantissa.wrapping_mul(i as u64));
-    }
-    sum
+    cells.iter().enumerate().fold(0u64, |sum, (i, c)| {
+        sum.wrapping_add(c.mantissa.wrapping_mul(i as u64))
+    })
 }
 
 fn ranks(rt: &HostRuntime, n: usize, times: usize) -> anyhow::Result<()> {
     let places = triangle_places(n).unwrap_or(0);
-    let mut cells: Vec<Value> = vec![in rt.alloc(); Value {
-        mantissa: 0,
-        exponent: 0,
-        negative: false
-    }; places]?;
+    let mut cells: Vec<Value> = vec![in rt.alloc(); Value::zero(); places]?;
     fill_cells(cells.as_mut_slice());
     let start = Instant::now(rt)?;
     let granted = turn_ranks(cells.as_mut_slice(), n, times);
@@ -184,24 +161,42 @@ fn ranks(rt: &HostRuntime, n: usize, times: usize) -> anyhow::Result<()> {
     Ok(())
 }
 
-fn run(rt: &HostRuntime) -> anyhow::Result<()> {
-    let mut mode = 0u8;
-    let mut numbers = [0usize; 2];
-    let mut at = 0usize;
-    for word in env::args(rt)? {
-        if word.as_str() == "inserts" {
-            mode = 1;
-        } else if word.as_str() == "ranks" {
-            mode = 2;
-        } else if mode != 0 && at < 2 {
-            numbers[at] = word.as_str().parse::<usize>()?;
-            at += 1;
-        }
+// What is timed.
+#[derive(Clone, Copy)]
+enum Job {
+    Inserts,
+    Ranks,
+}
+
+// The job that a word names.
+fn job_of(word: &str) -> Option<Job> {
+    match word {
+        "inserts" => Some(Job::Inserts),
+        "ranks" => Some(Job::Ranks),
+        _ => None,
     }
-    if mode == 1 {
-        inserts(rt, numbers[0], numbers[1])
-    } else {
-        ranks(rt, numbers[0], numbers[1])
+}
+
+// The number that a word says, 0 for no word.
+fn number_of(word: Option<&String>) -> anyhow::Result<usize> {
+    match word {
+        Some(word) => Ok(word.as_str().parse::<usize>()?),
+        None => Ok(0),
+    }
+}
+
+fn run(rt: &HostRuntime) -> anyhow::Result<()> {
+    let words: Vec<String> = env::args(rt)?.collect(rt.alloc())?;
+    let job = words.iter().filter_map(|word| job_of(word.as_str())).last();
+    let mut numbers = words
+        .iter()
+        .skip_while(|word| job_of(word.as_str()).is_none())
+        .filter(|word| job_of(word.as_str()).is_none());
+    let n = number_of(numbers.next())?;
+    let times = number_of(numbers.next())?;
+    match job {
+        Some(Job::Inserts) => inserts(rt, n, times),
+        Some(Job::Ranks) | None => ranks(rt, n, times),
     }
 }
 

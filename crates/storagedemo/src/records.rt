@@ -1,14 +1,14 @@
 // Two kinds of records, a code with a number and a code with a time, and the value of a cell.
-ghost use Rattle.std.specs.Prelude.{◌≡◌, refl};
-ghost use Rattle.std.specs.Ordering.{ordering_then, nat_cmp};
-ghost use Rattle.storagedemo.specs.Records.{code_order, reading_order, bare_reading, visit_order, bare_visit, zero_amount, is_zero};
+ghost use Rattle.std.specs.Prelude.{refl};
+ghost use Rattle.storagedemo.specs.Records.{reading_order, bare_reading, visit_order, bare_visit, zero_amount, is_zero};
 ghost use Rattle.storagedemo.specs.Keys.{reading_order_lem, visit_order_lem};
 
 use std::cmp::Ordering;
+use std::fmt;
 use tables::table::Record;
 use triangle::cell::Cell;
 
-#[derive(Clone, Copy)]
+#[derive(Clone, Copy, PartialEq, Eq, PartialOrd, Ord, Debug)]
 pub struct Code {
     pub letter: u8,
     pub digit: u8,
@@ -21,8 +21,8 @@ pub struct Reading {
     pub number: u32,
 }
 
-// Its key is the code, then the time.
-#[derive(Clone, Copy)]
+// Its key is all of it: the code, then the time.
+#[derive(Clone, Copy, PartialEq, Eq, PartialOrd, Ord, Debug)]
 pub struct Visit {
     pub code: Code,
     pub hour: u8,
@@ -34,35 +34,26 @@ pub struct Amount {
     pub value: u32,
 }
 
-fn compare_number(a: u8, b: u8) -> Ordering
-    ensures { result ≡ nat_cmp a b }
-{
-    if a < b {
-        Ordering::Less
-    } else if a == b {
-        Ordering::Equal
-    } else {
-        Ordering::Greater
+impl fmt::Display for Code {
+    fn fmt<W: fmt::Write>(&self, f: &mut fmt::Formatter<W>) -> fmt::Result {
+        let letter = char::from(self.letter);
+        let digit = char::from(self.digit);
+        write!(f, "{letter}{digit}")
     }
 }
 
-// The first answer, or the second where the first is equal.
-fn next(first: Ordering, second: Ordering) -> Ordering
-    ensures { result ≡ ordering_then first second }
-{
-    match first {
-        Ordering::Less => Ordering::Less,
-        Ordering::Equal => second,
-        Ordering::Greater => Ordering::Greater,
+impl fmt::Display for Reading {
+    fn fmt<W: fmt::Write>(&self, f: &mut fmt::Formatter<W>) -> fmt::Result {
+        let Reading { code, number } = self;
+        write!(f, "{code}={number}")
     }
 }
 
-fn compare_code(a: &Code, b: &Code) -> Ordering
-    ensures { result ≡ code_order a.now b.now }
-{
-    let letter = compare_number(a.letter, b.letter);
-    let digit = compare_number(a.digit, b.digit);
-    next(letter, digit)
+impl fmt::Display for Visit {
+    fn fmt<W: fmt::Write>(&self, f: &mut fmt::Formatter<W>) -> fmt::Result {
+        let Visit { code, hour, minute } = self;
+        write!(f, "{code}@{hour}:{minute:02}")
+    }
 }
 
 impl Record for Reading {
@@ -73,7 +64,7 @@ impl Record for Reading {
     ghost lawful = { reading_order_lem };
 
     fn compare(&self, other: &Reading) -> Ordering {
-        compare_code(&self.code, &other.code)
+        self.code.cmp(&other.code)
     }
 
     fn blank() -> Reading {
@@ -95,10 +86,7 @@ impl Record for Visit {
     ghost lawful = { visit_order_lem };
 
     fn compare(&self, other: &Visit) -> Ordering {
-        let code = compare_code(&self.code, &other.code);
-        let hour = compare_number(self.hour, other.hour);
-        let minute = compare_number(self.minute, other.minute);
-        next(code, next(hour, minute))
+        self.cmp(other)
     }
 
     fn blank() -> Visit {

@@ -1,12 +1,14 @@
 -- Puts and drops on ordered lists. Assumes nothing.
 use Rattle.std.proofs.Common.{◌≡◌, Bool, true, false, ◌⊎◌, List, [], ◌∷◌, Ordering, Less, Equal, Greater, sym, refl, ap, ◌∙◌, inl, inr}
 use Rattle.std.proofs.lemmas.Bool.{both_ways}
-use Rattle.tables.specs.Keys.{Order, Above, Rising, by3}
+use Rattle.tables.specs.Keys.{Above, Rising, by3}
 use Rattle.tables.specs.Lists.{holds, put, without}
 use Rattle.tables.specs.Laws.{Among, PutLaw, DropLaw, BackLaw}
-use Rattle.tables.proofs.Orders.{less_not_equal, greater_not_equal, turned, turned_back, own_key}
+use Rattle.std.specs.Cmp.{IsTotalOrder}
+use Rattle.std.proofs.lemmas.Cmp.{tied_itself}
+use Rattle.tables.proofs.Orders.{less_not_equal, greater_not_equal, turned, turned_back}
 
-module _ {R : Type 0} (cmp : R → R → Ordering) (o : Order cmp) where
+module _ {R : Type 0} (cmp : R → R → Ordering) (o : IsTotalOrder cmp) where
   -- ---- keys that rise go on rising
 
   above_put_by : (q : Ordering) (x r y : R) (ys zs : List R) → cmp x r ≡ Less → cmp x y ≡ Less → Above cmp x (by3 q (y ∷ zs) (r ∷ ys) (r ∷ y ∷ ys))
@@ -20,13 +22,13 @@ module _ {R : Type 0} (cmp : R → R → Ordering) (o : Order cmp) where
 
   above_alike : (x r : R) (xs : List R) → cmp x r ≡ Equal → Above cmp x xs → Above cmp r xs
   above_alike x r [] e a = tt
-  above_alike x r (y ∷ ys) e a = sym (o.alike x r y e) ∙ a
+  above_alike x r (y ∷ ys) e a = sym (o.congr x r y e) ∙ a
 
   rises_put_by : (q : Ordering) (r x : R) (xs zs : List R) → cmp x r ≡ q → (q ≡ Less → Above cmp x zs) → Rising cmp zs → Above cmp x xs → Rising cmp xs
       → Rising cmp (by3 q (x ∷ zs) (r ∷ xs) (r ∷ x ∷ xs))
   rises_put_by Less r x xs zs e f z a h = (f refl, z)
   rises_put_by Equal r x xs zs e f z a h = (above_alike x r xs e a, h)
-  rises_put_by Greater r x xs zs e f z a h = (turned_back cmp o x r e, (a, h))
+  rises_put_by Greater r x xs zs e f z a h = (turned_back o x r e, (a, h))
 
   pub rises-put : (r : R) (xs : List R) → Rising cmp xs → Rising cmp (put cmp r xs)
   rises-put r [] h = (tt, tt)
@@ -64,10 +66,10 @@ module _ {R : Type 0} (cmp : R → R → Ordering) (o : Order cmp) where
 
   -- past a record of r's key, or past a greater one, there is none of r's key
   none-past : (r x : R) (xs : List R) → Rising cmp (x ∷ xs) → cmp x r ≡ Equal → (y : R) → Among y xs → cmp y r ≡ Equal → ⊥
-  none-past r x xs h e y m = greater_not_equal (turned cmp o r y (sym (o.alike x r y e) ∙ before x xs h y m))
+  none-past r x xs h e y m = greater_not_equal (turned o r y (sym (o.congr x r y e) ∙ before x xs h y m))
 
   none_past_greater : (r x : R) (xs : List R) → Rising cmp (x ∷ xs) → cmp x r ≡ Greater → (y : R) → Among y xs → cmp y r ≡ Equal → ⊥
-  none_past_greater r x xs h e y m = greater_not_equal (turned cmp o r y (o.trans r x y (turned_back cmp o x r e) (before x xs h y m)))
+  none_past_greater r x xs h e y m = greater_not_equal (turned o r y (o.trans r x y (turned_back o x r e) (before x xs h y m)))
 
   new_by : (q : Ordering) (r x : R) (xs zs : List R) → Among r zs → Among r (by3 q (x ∷ zs) (r ∷ xs) (r ∷ x ∷ xs))
   new_by Less r x xs zs m = inr m
@@ -145,7 +147,7 @@ module _ {R : Type 0} (cmp : R → R → Ordering) (o : Order cmp) where
   -- ---- a record of a new key put and dropped again
 
   first_out : (r : R) (xs : List R) → without cmp r (r ∷ xs) ≡ xs
-  first_out r xs = ap (λ q. by3 q (r ∷ without cmp r xs) xs (r ∷ xs)) (own_key cmp o r)
+  first_out r xs = ap (λ q. by3 q (r ∷ without cmp r xs) xs (r ∷ xs)) (tied_itself o r)
 
   back_by : (q : Ordering) (r x : R) (xs : List R) (t : Bool) → cmp x r ≡ q → (t ≡ false → without cmp r (put cmp r xs) ≡ xs)
       → by3 q t true false ≡ false → without cmp r (by3 q (x ∷ put cmp r xs) (r ∷ xs) (r ∷ x ∷ xs)) ≡ x ∷ xs

@@ -2,14 +2,16 @@
 use Rattle.std.proofs.Common.{◌≡◌, ℕ, zero, suc, ◌+◌, ◌-◌, ◌<◌, ◌≤◌, List, [], ◌∷◌, length, get_or, Ok, Err, Result, Ordering, Less, Equal, Greater, sym, refl, ap, ◌∙◌, ⊎_elim, arith}
 use Rattle.std.proofs.lemmas.List.{get_or_default}
 use Rattle.std.proofs.lemmas.Bool.{cases_lt}
-use Rattle.tables.specs.Keys.{Order, Rising, by3}
+use Rattle.tables.specs.Keys.{Rising, by3}
 use Rattle.tables.specs.Lists.{place_from, place}
 use Rattle.tables.specs.Rows.{middle, halving, sought}
 use Rattle.tables.specs.Laws.{Tells, SearchLaw}
 use Rattle.tables.proofs.Halves.{step, halving_more, halving-end}
-use Rattle.tables.proofs.Orders.{alike_right, turned, turned_back}
+use Rattle.std.specs.Cmp.{IsTotalOrder}
+use Rattle.std.proofs.lemmas.Cmp.{alike_right}
+use Rattle.tables.proofs.Orders.{turned, turned_back}
 
-module _ {R : Type 0} (cmp : R → R → Ordering) (o : Order cmp) where
+module _ {R : Type 0} (cmp : R → R → Ordering) (o : IsTotalOrder cmp) where
   -- the first stands before every other
   pub before_all : (x : R) (xs : List R) (k : ℕ) (d : R) → Rising cmp (x ∷ xs) → k < length xs → cmp x (get_or xs k d) ≡ Less
   before_all x [] k d h lt = absurd (omega arith)
@@ -29,7 +31,7 @@ module _ {R : Type 0} (cmp : R → R → Ordering) (o : Order cmp) where
   found_at r (x ∷ xs) zero i d h lt e =
       ap (λ q. by3 q (place_from cmp r (i + 1) xs) (Ok i) (Err i)) e ∙ ap Ok (omega arith)
   found_at r (x ∷ xs) (suc n) i d h lt e =
-      let less : cmp x r ≡ Less = alike_right cmp o x (get_or xs n d) r e ∙ before_all x xs n d h (omega arith) in
+      let less : cmp x r ≡ Less = sym (alike_right o (get_or xs n d) r x e) ∙ before_all x xs n d h (omega arith) in
       ap (λ q. by3 q (place_from cmp r (i + 1) xs) (Ok i) (Err i)) less
       ∙ found_at r xs n (i + 1) d h.1 (omega arith) e
       ∙ ap Ok (omega arith)
@@ -114,7 +116,7 @@ module _ {R : Type 0} (cmp : R → R → Ordering) (o : Order cmp) where
   -- a first record past r's key: so are the others
   all_greater : (r x : R) (xs : List R) → Rising cmp (x ∷ xs) → cmp x r ≡ Greater → (n : ℕ) → n < suc (length xs) → cmp (get_or (x ∷ xs) n r) r ≡ Greater
   all_greater r x xs h e zero lt = e
-  all_greater r x xs h e (suc n) lt = turned cmp o r (get_or xs n r) (o.trans r x (get_or xs n r) (turned_back cmp o x r e) (before_all x xs n r h (omega arith)))
+  all_greater r x xs h e (suc n) lt = turned o r (get_or xs n r) (o.trans r x (get_or xs n r) (turned_back o x r e) (before_all x xs n r h (omega arith)))
 
   by_answer : (q : Ordering) (r x : R) (xs : List R) (i : ℕ) (p : Result ℕ ℕ) → Rising cmp (x ∷ xs) → cmp x r ≡ q → TellsFrom r xs (i + 1) p → TellsFrom r (x ∷ xs) i (by3 q p (Ok i) (Err i))
   by_answer Less r x xs i p h e t = later r x xs i p e t

@@ -2,11 +2,12 @@
 use Rattle.std.proofs.Common.{◌≡◌, ℕ, suc, ◌+◌, ◌-◌, ◌<◌, ◌≤◌, Bool, true, false, cond, ltb, List, [], ◌∷◌, ◌++◌, length, take, drop, set, replicate, is_ok, Ok, Err, Result, Ordering, Less, Equal, Greater, sym, refl, ap, ◌∙◌, subst, arith, take-append-drop}
 use Rattle.refusals.specs.declared.Fault.{Fault}
 use Rattle.refusals.specs.declared.Fault.TheVariants.{TableFull, RecordAbsent}
+use Rattle.std.specs.Cmp.{IsTotalOrder}
 use Rattle.std.specs.List.{insert, remove}
 use Rattle.std.proofs.lemmas.List.Edits.{length-insert, length-remove}
 use Rattle.std.proofs.lemmas.List.{append_assoc, drop_at, drop-drop, drop-replicate, length-append, length-replicate, length-set, length-take-le, replicate-append-replicate, set-append_left, take_at}
 use Rattle.std.proofs.lemmas.Bool.{both_ways, cond-true, cond-false}
-use Rattle.tables.specs.Keys.{Order, Rising, by3}
+use Rattle.tables.specs.Keys.{Rising, by3}
 use Rattle.tables.specs.Lists.{place_from, place, holds, put, without, over, laid}
 use Rattle.tables.specs.Rows.{sought, filled, used_rows, put_answer_at, put_rows_at, drop_answer_at, drop_rows_at, put_answer, put_rows, drop_answer, drop_rows}
 use Rattle.tables.specs.Laws.{PutSorted, DropSorted, put_rule, drop_rule, StaysLaid, LaidLaw}
@@ -99,7 +100,7 @@ module _ {R : Type 0} (r blank : R) (rows xs p w : List R) (u : ℕ) (h : Bool) 
 
 -- ---- rows of which the first u rise
 
-module _ {R : Type 0} (cmp : R → R → Ordering) (o : Order cmp) (r blank : R) (used : ℕ) (rows : List R) (within : used ≤ length rows) (rising : Rising cmp (take used rows)) where
+module _ {R : Type 0} (cmp : R → R → Ordering) (o : IsTotalOrder cmp) (r blank : R) (used : ℕ) (rows : List R) (within : used ≤ length rows) (rising : Rising cmp (take used rows)) where
   all : filled used rows ≡ used
   all = omega arith
 
@@ -202,7 +203,7 @@ either-laid : {R : Type 0} (b : R) (n : ℕ) (c : Bool) (ys zs : List R) → con
 either-laid b n true ys zs = refl
 either-laid b n false ys zs = refl
 
-module _ {R : Type 0} (cmp : R → R → Ordering) (o : Order cmp) (blank r : R) (n : ℕ) (ys : List R) (fits : length ys ≤ n) (rising : Rising cmp ys) where
+module _ {R : Type 0} (cmp : R → R → Ordering) (o : IsTotalOrder cmp) (blank r : R) (n : ℕ) (ys : List R) (fits : length ys ≤ n) (rising : Rising cmp ys) where
   abbrev lay : List R
   lay = laid blank n ys
 
@@ -256,5 +257,5 @@ module _ {R : Type 0} (cmp : R → R → Ordering) (o : Order cmp) (blank r : R)
         ∙ dropped (holds cmp r ys) refl;
   }
 
-pub laid_law : {R : Type 0} (cmp : R → R → Ordering) (blank : R) → Order cmp → LaidLaw R cmp blank
+pub laid_law : {R : Type 0} (cmp : R → R → Ordering) (blank : R) → IsTotalOrder cmp → LaidLaw R cmp blank
 laid_law cmp blank o n r xs fits rising = stays_laid cmp o blank r n xs fits rising

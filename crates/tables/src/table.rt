@@ -2,10 +2,11 @@
 // The public functions take rows and how many are used apart: a caller lends one of several tables at each call.
 ghost use Rattle.std.specs.Prelude.{◌≡◌, ◌-◌, ◌<◌, ◌≤◌, [], ◌∷◌, ◌++◌, length, take, replicate};
 ghost use Rattle.std.specs.declared.cmp.Ordering.{Ordering};
+ghost use Rattle.std.specs.Cmp.{IsTotalOrder};
 ghost use Rattle.std.specs.List.{insert, remove};
 ghost use Rattle.std.specs.List.Sorted.{IsSearchInRange};
 ghost use Rattle.std.specs.Result.{result_unwrap_or};
-ghost use Rattle.tables.specs.Keys.{Order, Rising};
+ghost use Rattle.tables.specs.Keys.{Rising};
 ghost use Rattle.tables.specs.Lists.{place};
 ghost use Rattle.tables.specs.Laws.{PutSorted, DropSorted};
 ghost use Rattle.tables.specs.Rows.{sought, filled, known, used_rows, put_answer, put_rows, drop_answer, drop_rows, plain};
@@ -27,7 +28,7 @@ pub trait Record: Copy {
     fn blank() -> Self
         ensures { result ≡ bare };
 
-    ghost lawful: { Order order };
+    ghost lawful: { IsTotalOrder order };
 }
 
 // Where the record of r's key stands, or the place before which it would go. By hand: std's `binary_search_by` names its place only in rows in order.

@@ -5,7 +5,7 @@ use Rattle.std.specs.Result.{result_unwrap_or}
 use Rattle.std.proofs.lemmas.List.{get_or_append_left, get_or_default, get_or-map, length-map}
 use Rattle.std.proofs.lemmas.Bool.{cases_eq, cases_Bool, cond-true, cond-false, eq-eqb, eqb-true, and_parts, and_from, or_cases, both_ways, leb-true}
 use Rattle.std.proofs.lemmas.Bool.Decides.{same_from_decides, Decides-like}
-use Rattle.tables.specs.Keys.{Order}
+use Rattle.std.specs.Cmp.{IsTotalOrder}
 use Rattle.tables.specs.Rows.{sought, known, used_rows}
 use Rattle.tables.specs.Laws.{Tells}
 use Rattle.tables.proofs.Places.{search_law}
@@ -194,7 +194,7 @@ module _ (X : Type 0) (void : X → Bool) where
 
 -- ---- ranks
 
-module _ (R : Type 0) (cmp : R → R → Ordering) (o : Order cmp) where
+module _ (R : Type 0) (cmp : R → R → Ordering) (o : IsTotalOrder cmp) where
   told : (r : R) (xs : List R) (q : Result ℕ ℕ) → Tells cmp r xs q → is_ok q ≡ true → (result_unwrap_or q 0 < length xs) × (cmp (get_or xs (result_unwrap_or q 0) r) r ≡ Equal)
   told r xs (Ok k) t e = t
   told r xs (Err k) t e = absurd (both_ways false refl e)
@@ -212,7 +212,7 @@ module _ (R : Type 0) (cmp : R → R → Ordering) (o : Order cmp) where
       let (ls, q) = ranks_found used rows h s ks in
       let y = get_or xs (rank_in cmp used rows r) r in
       let same : y ≡ get_or xs (rank_in cmp used rows s) s = get_or_default xs (rank_in cmp used rows r) r s lt ∙ ap (λ k. get_or xs k s) e in
-      sym (o.alike y r s p) ∙ ap (λ t. cmp t s) same ∙ q
+      sym (o.congr y r s p) ∙ ap (λ t. cmp t s) same ∙ q
 
   -- each record of a list that the table has
   known_at : (used : ℕ) (rows rs : List R) (i : ℕ) (d : R) → all_known cmp used rows rs ≡ true → i < length rs → known cmp (get_or rs i d) used rows ≡ true
