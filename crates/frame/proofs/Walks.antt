@@ -139,6 +139,7 @@ nil_tested cs i r e = elim (cases_lt i (length cs)) [
     flip : (r : Bool) → true ≡ not r → r ≡ false
     flip true e = absurd (false≢true (sym e))
     flip false e = refl
+
     stay : (r : Bool) → false ≡ not r → r ≡ true
     stay true e = refl
     stay false e = absurd (false≢true e)
