@@ -1,6 +1,6 @@
 -- The recursion over lines, and the walk over byte places.
 use Rattle.std.proofs.Common.{◌≡◌, ℕ, suc, ◌+◌, ◌<◌, ◌≤◌, true, false, cond, eqb, List, [], ◌∷◌, length, drop, Some, None, Ok, Err, Option, Result, sym, refl, ap, ◌∙◌, inl, inr, add-one, arith}
-use Rattle.frame.proofs.Titled.{Orderly, data_lines, orderly_none, stepped-leaves}
+use Rattle.frame.proofs.Titled.{Orderly, data_lines, stepped-leaves}
 use Rattle.frame.specs.Frames.{at, frame, framed, ended, stepped, continued, unread, first_place}
 use Rattle.frame.specs.Lines.{lines, glue, first_line, fits, line_of, fetched, passed, is_nil}
 use Rattle.frame.specs.declared.line.Line.{Line}
@@ -155,10 +155,6 @@ going_more cs p q f g ln k e n s m =
       orderly = t.0;
       rest = ap (λ (q : Place). frame q g (lines (drop q.byte cs))) m ∙ (turn_goes cs p f g ln e n s ∙ k.rest);
     }
-
--- before the first line
-pub going_none : (cs : List ℕ) → length cs ≤ 100000000 → Going cs first_place unread
-going_none cs h = record { within = omega arith; small = h; number = omega arith; count = omega arith; orderly = orderly_none; rest = refl }
 
 -- what is left decides
 pub going_all : (cs : List ℕ) (p : Place) (f : Progress) → Going cs p f → frame p f (lines (drop p.byte cs)) ≡ framed cs
