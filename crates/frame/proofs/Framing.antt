@@ -1,5 +1,5 @@
 -- The frame is right exactly where the pass over the lines accepts.
-use Rattle.std.proofs.Common.{◌≡◌, ℕ, ◌+◌, ◌≤◌, Bool, true, false, cond, eqb, ltb, ◌⊎◌, List, [], ◌∷◌, ◌++◌, map, length, take, drop, set, Some, None, Ok, Err, codes, Option, Result, sym, refl, ap, ◌∙◌, subst, inl, inr, add-zero, zero-add, arith}
+use Rattle.std.proofs.Common.{◌≡◌, ℕ, ◌+◌, ◌≤◌, Bool, true, false, cond, eqb, ltb, ◌⊎◌, List, [], ◌∷◌, ◌++◌, map, length, drop, Some, None, Ok, Err, codes, Option, Result, sym, refl, ap, ◌∙◌, subst, inl, inr, add-zero, zero-add, arith}
 use Rattle.frame.proofs.DataWalk.{lines-past}
 use Rattle.frame.proofs.Titled.{New, apart_push, has_apart}
 use Rattle.frame.specs.DataLines.{data_from, data_by, data_at}
@@ -11,11 +11,9 @@ use Rattle.frame.specs.Rules.{All, Apart, Good, OfKind, Part, Right, remark, sec
 use Rattle.frame.specs.declared.data.DataLine.{DataLine}
 use Rattle.frame.specs.declared.heading.Caption.{Caption}
 use Rattle.frame.specs.declared.heading.Heading.{Heading}
-use Rattle.frame.specs.declared.line.Line.{Line}
 use Rattle.frame.specs.declared.line.LineKind.{LineKind}
 use Rattle.frame.specs.declared.line.LineKind.TheVariants.{Bound, Comment, Title, End, Data}
 use Rattle.frame.specs.declared.place.Place.{Place}
-use Rattle.frame.specs.declared.title.Title.{Title as BlockTitle}
 use Rattle.frame.specs.declared.walk.Block.{Block}
 use Rattle.frame.specs.declared.walk.Frame.{Frame}
 use Rattle.frame.specs.declared.walk.Progress.{Progress}
@@ -23,7 +21,7 @@ use Rattle.frame.specs.declared.walk.Stage.{Stage}
 use Rattle.frame.specs.declared.walk.Stage.TheVariants.{Start, Outside, Inside}
 use Rattle.refusals.specs.declared.Refusal.{Refusal}
 use Rattle.std.proofs.lemmas.Slice.Eq.{bytes_eq-Decides}
-use Rattle.std.proofs.lemmas.List.{append_assoc, append-nil, take_at, length-append, length_push}
+use Rattle.std.proofs.lemmas.List.{append_assoc, append-nil, length-append}
 use Rattle.std.proofs.lemmas.Bool.{and_parts, cond_both, cond-true, cond-false, eqb-true, false≢true, le-ltb, ltb-false, ne_eqb}
 use Rattle.std.specs.List.{flat_map}
 use Rattle.std.specs.Str.{bytes_eq}
@@ -32,9 +30,6 @@ use Rattle.std.specs.Str.{bytes_eq}
 
 no_result : {T E : Type 0} {x : E} {y : T} → Err x ≡ Ok y → ⊥
 no_result e = let z : ◌≡◌ {A = ℕ} 0 1 = cc in omega arith
-
-same_result : {T E : Type 0} {r : Result T E} {x y : T} → r ≡ Ok x → r ≡ Ok y → x ≡ y
-same_result p q = cc
 
 -- what an accepted test leaves
 tested : {T E : Type 0} (b : Bool) (r : Result T E) (e : E) (y : T) → cond b r (Err e) ≡ Ok y → (b ≡ true) × (r ≡ Ok y)

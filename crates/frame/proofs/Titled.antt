@@ -1,6 +1,6 @@
 -- No title twice: so the blocks never outnumber the titles.
-use Rattle.std.proofs.Common.{◌≡◌, ℕ, zero, suc, ◌+◌, ◌<◌, ◌≤◌, Bool, true, false, cond, ◌||◌, eqb, ◌≢◌, List, [], ◌∷◌, ◌++◌, length, get_or, drop, set, replicate, IfOk, Bor, Some, None, Ok, Option, Result, sym, refl, ap, ◌∙◌, subst, inl, inr, arith, rules, lit<}
-use Rattle.frame.specs.Frames.{has_title, block_of, stepped, by_kind, by_stage, ending, inside, outside, opening, is_header, unread, Spacious, SpaciousIn}
+use Rattle.std.proofs.Common.{◌≡◌, ℕ, zero, suc, ◌+◌, ◌<◌, ◌≤◌, Bool, true, false, cond, eqb, ◌≢◌, List, [], ◌∷◌, ◌++◌, length, get_or, set, replicate, IfOk, Bor, Some, None, Ok, Option, Result, sym, refl, ap, ◌∙◌, subst, inl, inr, arith, rules, lit<}
+use Rattle.frame.specs.Frames.{has_title, block_of, stepped, by_kind, by_stage, ending, inside, outside, opening, is_header, Spacious, SpaciousIn}
 use Rattle.frame.specs.Headings.{caption_of, heading_of}
 use Rattle.frame.specs.Lines.{kind_of, passed}
 use Rattle.frame.specs.Rules.{Apart}
@@ -19,8 +19,8 @@ use Rattle.frame.specs.declared.walk.Progress.{Progress}
 use Rattle.frame.specs.declared.walk.Stage.{Stage}
 use Rattle.frame.specs.declared.walk.Stage.TheVariants.{Start, Outside, Inside}
 use Rattle.refusals.specs.declared.Refusal.{Refusal}
-use Rattle.std.proofs.lemmas.List.{at_drop_more, get_or-set_other, get_or-replicate, length-set, length-take-le, take_more_set}
-use Rattle.std.proofs.lemmas.Bool.{cases_Bool, cond_both, eq-eqb, eqb-true, ne_eqb, eqb-false, or_parts, or_from, or_left, false≢true}
+use Rattle.std.proofs.lemmas.List.{get_or-set_other, get_or-replicate, length-set}
+use Rattle.std.proofs.lemmas.Bool.{cases_Bool, cond_both, eq-eqb, eqb-true, ne_eqb, eqb-false, or_parts, or_from, false≢true}
 use Rattle.std.specs.List.{find}
 use Rattle.std.proofs.lemmas.Bool.Decides.{same_from_decides}
 use denote.Enum.Bare.{same_true, true_same}
@@ -200,9 +200,6 @@ orderly_spacious f k l = go f.stage f.ended k.apart k.new l
     go Start bs a n l = tt
     go Outside bs a n l = tt
     go (Inside h b) bs a n l = let few = apart-few (b ∷ bs) (n, a) in (omega arith, l)
-
-pub orderly_none : Orderly unread
-orderly_none = record { apart = tt; new = tt }
 
 -- what a step leaves: an orderly progress, and at most one data line more
 abbrev pub Stepped : Stage → Progress → Type 0

@@ -1,6 +1,6 @@
 -- The recursion over lines, and the walk over byte places.
-use Rattle.std.proofs.Common.{◌≡◌, ℕ, suc, ◌+◌, ◌<◌, ◌≤◌, true, false, cond, eqb, List, [], ◌∷◌, length, drop, Some, None, Ok, Err, Option, Result, MatchResult, sym, refl, ap, ◌∙◌, inl, inr, add-one, arith}
-use Rattle.frame.proofs.Titled.{Orderly, data_lines, orderly_none, stepped-leaves}
+use Rattle.std.proofs.Common.{◌≡◌, ℕ, suc, ◌+◌, ◌<◌, ◌≤◌, true, false, cond, eqb, List, [], ◌∷◌, length, drop, Some, None, Ok, Err, Option, Result, sym, refl, ap, ◌∙◌, inl, inr, add-one, arith}
+use Rattle.frame.proofs.Titled.{Orderly, data_lines, stepped-leaves}
 use Rattle.frame.specs.Frames.{at, frame, framed, ended, stepped, continued, unread, first_place}
 use Rattle.frame.specs.Lines.{lines, glue, first_line, fits, line_of, fetched, passed, is_nil}
 use Rattle.frame.specs.declared.line.Line.{Line}
@@ -10,8 +10,6 @@ use Rattle.frame.specs.declared.walk.Progress.{Progress}
 use Rattle.refusals.specs.declared.Fault.{Fault}
 use Rattle.refusals.specs.declared.Fault.TheVariants.{UnfitLine, NoHeaderLine}
 use Rattle.refusals.specs.declared.Refusal.{Refusal}
-use Rattle.std.proofs.lemmas.Result.{err_from_is_err_and}
-use Rattle.std.specs.Result.{IsErrAnd}
 use Rattle.std.proofs.lemmas.List.{at_drop_all, drop-drop, length-drop}
 use Rattle.std.proofs.lemmas.Bool.{cond-true, cond-false, cases_Bool, cases_lt, false≢true, le-ltb}
 
@@ -158,10 +156,6 @@ going_more cs p q f g ln k e n s m =
       rest = ap (λ (q : Place). frame q g (lines (drop q.byte cs))) m ∙ (turn_goes cs p f g ln e n s ∙ k.rest);
     }
 
--- before the first line
-pub going_none : (cs : List ℕ) → length cs ≤ 100000000 → Going cs first_place unread
-going_none cs h = record { within = omega arith; small = h; number = omega arith; count = omega arith; orderly = orderly_none; rest = refl }
-
 -- what is left decides
 pub going_all : (cs : List ℕ) (p : Place) (f : Progress) → Going cs p f → frame p f (lines (drop p.byte cs)) ≡ framed cs
 going_all cs p f k = k.rest ∙ sym (cond-false _ _ _ (le-ltb 100000000 (length cs) k.small))
@@ -172,16 +166,3 @@ read_bound cs at ln e = elim (cases_lt at (length cs)) [
   | inl h ↦ (h, read_within cs at ln (omega arith) e)
   | inr h ↦ let s : fetched (drop at cs) ≡ Ok None = at_drop_all fetched cs at h in let z : ◌≡◌ {A = ℕ} 0 1 = cc in absurd (omega arith)
 ]
-
--- what `map_err` was called on
-ok_or_err : {T D : Type 0} (x : T) (y : D) → ◌≡◌ {A = Result T D} (Ok x) (Err y) → ⊥
-ok_or_err x y q = let z : ◌≡◌ {A = ℕ} 0 1 = cc in omega arith
-
-pub mapped_ok : {T E D : Type 0} (r : Result T E) (m : Result T D) (x : T) (Q : E → D → Type 0) → MatchResult r (λ y. m ≡ Ok y) (λ e. IsErrAnd m (Q e)) → m ≡ Ok x → r ≡ Ok x
-mapped_ok (Ok y) m x Q h e = let same : y ≡ x = cc in ap Ok same
-mapped_ok (Err d) m x Q h e = let k = err_from_is_err_and m h in absurd (ok_or_err x k.0 (sym e ∙ k.1))
-
-pub mapped_err : {T E D : Type 0} (r : Result T E) (m : Result T D) (d : D) (Q : E → D → Type 0) (f : E → D) → MatchResult r (λ y. m ≡ Ok y) (λ e. IsErrAnd m (Q e)) → m ≡ Err d
-    → ((e : E) (b : D) → Q e b → b ≡ f e) → (e : E) × (r ≡ Err e) × (d ≡ f e)
-mapped_err (Ok y) m d Q f h e q = absurd (ok_or_err y d (sym h ∙ e))
-mapped_err (Err x) m d Q f h e q = let k = err_from_is_err_and m h in let same : k.0 ≡ d = let l = k.1 in cc in (x, refl, sym same ∙ q x k.0 k.2)

@@ -1,22 +1,10 @@
 -- Lemmas on a content that is walked from a place on.
-use Rattle.std.proofs.Common.{◌≡◌, ℕ, ◌+◌, ◌-◌, ◌<◌, ◌≤◌, Bool, true, false, cond, not, ◌&&◌, eqb, List, [], ◌∷◌, ◌++◌, length, get_or, take, drop, set, replicate, Some, None, Ok, Err, sym, refl, ap, ◌∙◌, inl, inr, arith}
-use Rattle.frame.specs.Lines.{first_line, all_printable, fits, padded, line_of, fetched, is_nil}
+use Rattle.std.proofs.Common.{◌≡◌, ℕ, ◌+◌, ◌-◌, ◌<◌, ◌≤◌, false, cond, eqb, List, [], ◌∷◌, ◌++◌, length, get_or, take, drop, set, replicate, Some, None, Ok, Err, sym, refl, ap, ◌∙◌, inl, inr, arith}
+use Rattle.frame.specs.Lines.{first_line, fits, line_of, fetched}
 use Rattle.refusals.specs.declared.Fault.TheVariants.{UnfitLine}
-use Rattle.std.proofs.lemmas.List.{at_drop_more, at_drop_all, append-nil, take_more_set, drop_more, drop-drop, length-set, length-take-le, length-append, append_assoc, take-append-drop, drop-set-lt, drop-replicate}
-use Rattle.std.proofs.lemmas.Bool.{and_left, and_from, and_right, lt-leb, le-leb, ne_eqb, cases_lt, lt-ltb, le-ltb, cond-true, cond-false, false≢true}
+use Rattle.std.proofs.lemmas.List.{at_drop_more, take_more_set, drop_more, drop-drop, length-set, length-take-le, length-append, append_assoc, drop-set-lt, drop-replicate}
+use Rattle.std.proofs.lemmas.Bool.{and_left, lt-leb, ne_eqb, cases_lt, lt-ltb, le-ltb, cond-true, cond-false}
 use Rattle.media.specs.Media.{byte_at}
-use Rattle.std.specs.Option.{is_some}
-
--- a test of every element, by recursion: the loop over it, at an element that fails and at one that passes
-pub by_and_stops : {X : Type 0} (d : X) (p : X → Bool) (f : List X → Bool) → ((x : X) (xs : List X) → f (x ∷ xs) ≡ (p x && f xs))
-    → (bs : List X) (i : ℕ) → i < length bs → p (get_or bs i d) ≡ false → f (drop i bs) ≡ f bs → false ≡ f bs
-by_and_stops d p f more bs i h e k = sym (sym k ∙ (at_drop_more f bs i d h ∙ (more _ _ ∙ and_left _ _ e)))
-
-pub by_and_goes : {X : Type 0} (d : X) (p : X → Bool) (f : List X → Bool) → ((x : X) (xs : List X) → f (x ∷ xs) ≡ (p x && f xs))
-    → (bs : List X) (i : ℕ) → i < length bs → p (get_or bs i d) ≡ true → f (drop i bs) ≡ f bs → f (drop (i + 1) bs) ≡ f bs
-by_and_goes d p f more bs i h e k =
-    let here : (p (get_or bs i d) && f (drop (i + 1) bs)) ≡ f (drop (i + 1) bs) = rw e in
-    sym here ∙ (sym (more _ _) ∙ (sym (at_drop_more f bs i d h) ∙ k))
 
 -- a place within
 pub byte_some : (cs : List ℕ) (i b : ℕ) → byte_at cs i ≡ Some b → (i < length cs) × (get_or cs i 0 ≡ b)
@@ -32,15 +20,6 @@ first_more cs i b e n =
     let step : first_line (drop i cs) ≡ cond (eqb (get_or cs i 0) 10) [] (get_or cs i 0 ∷ first_line (drop (i + 1) cs)) = at_drop_more first_line cs i 0 s.0 in
     step ∙ rw s.1 (cond-false _ _ _ (ne_eqb b 10 n))
 
-pub first_ends : (cs : List ℕ) (i : ℕ) → byte_at cs i ≡ Some 10 → first_line (drop i cs) ≡ []
-first_ends cs i e =
-    let s = byte_some cs i 10 e in
-    let step : first_line (drop i cs) ≡ cond (eqb (get_or cs i 0) 10) [] (get_or cs i 0 ∷ first_line (drop (i + 1) cs)) = at_drop_more first_line cs i 0 s.0 in
-    step ∙ rw s.1
-
-pub first-none : (cs : List ℕ) (i : ℕ) → length cs ≤ i → first_line (drop i cs) ≡ []
-first-none cs i h = at_drop_all first_line cs i h
-
 -- what the copying loop of `fetch` keeps
 pub record Copied (cs : List ℕ) (at len : ℕ) (bytes : List ℕ) : Type 0 where
   pub within : at + len ≤ length cs
@@ -48,15 +27,6 @@ pub record Copied (cs : List ℕ) (at len : ℕ) (bytes : List ℕ) : Type 0 whe
   pub long : length bytes ≡ 80
   pub blank : drop len bytes ≡ replicate (80 - len) 32
   pub line : first_line (drop at cs) ≡ take len bytes ++ first_line (drop (at + len) cs)
-
-pub copied_none : (cs : List ℕ) (at : ℕ) → at ≤ length cs → Copied cs at 0 (replicate 80 32)
-copied_none cs at h = record {
-  within = omega arith;
-  short = omega arith;
-  long = refl;
-  blank = refl;
-  line = let z : at + 0 ≡ at = omega arith in rw z refl;
-}
 
 pub copied_more : (cs : List ℕ) (at len b : ℕ) (bytes : List ℕ) → Copied cs at len bytes → byte_at cs (at + len) ≡ Some b → (b ≡ 10 → ⊥)
     → (len ≡ 80 → ⊥) → Copied cs at (len + 1) (set bytes len b)
@@ -83,30 +53,10 @@ copied_more cs at len b bytes k e n m =
           ∙ (ap (λ (t : List ℕ). t ++ first_line (drop (at + len + 1) cs)) (sym front) ∙ ap (λ (z : ℕ). take (len + 1) (set bytes len b) ++ first_line (drop z cs)) sum)));
     }
 
--- the first line, once its end is met
-pub copied_all : (cs : List ℕ) (at len : ℕ) (bytes : List ℕ) → Copied cs at len bytes → first_line (drop (at + len) cs) ≡ [] → first_line (drop at cs) ≡ take len bytes
-copied_all cs at len bytes k e = k.line ∙ (ap (λ (t : List ℕ). take len bytes ++ t) e ∙ append-nil _)
-
 -- what is fetched where a line begins
 pub fetched_line : (cs : List ℕ) (at : ℕ) → at < length cs
     → fetched (drop at cs) ≡ cond (fits (first_line (drop at cs))) (Ok (Some (line_of (first_line (drop at cs))))) (Err UnfitLine)
 fetched_line cs at h = rw (drop_more cs at 0 h)
-
-pub fetched-fit : (cs : List ℕ) (at len : ℕ) (bytes : List ℕ) → at < length cs → Copied cs at len bytes → first_line (drop (at + len) cs) ≡ []
-    → all_printable (take len bytes) ≡ true → Ok (Some (record { columns = bytes; len = len })) ≡ fetched (drop at cs)
-fetched-fit cs at len bytes h k e p =
-    let all = copied_all cs at len bytes k e in
-    let long : length (take len bytes) ≡ len = let l = k.long in let s = k.short in length-take-le len bytes (omega arith) in
-    let ok : fits (take len bytes) ≡ true = rw long (and_from _ _ (le-leb len 80 k.short) p) in
-    let pad : padded 32 80 (take len bytes) ≡ bytes = rw (long, ← k.blank) (take-append-drop len bytes) in
-    sym (fetched_line cs at h ∙ (rw (all, ok, pad, long) refl))
-
-pub fetched_unfit : (cs : List ℕ) (at len : ℕ) (bytes : List ℕ) → at < length cs → Copied cs at len bytes → first_line (drop (at + len) cs) ≡ []
-    → all_printable (take len bytes) ≡ false → Err UnfitLine ≡ fetched (drop at cs)
-fetched_unfit cs at len bytes h k e p =
-    let all = copied_all cs at len bytes k e in
-    let bad : fits (take len bytes) ≡ false = and_right _ _ p in
-    sym (fetched_line cs at h ∙ (rw (all, bad) refl))
 
 pub fetched-long : (cs : List ℕ) (at len b : ℕ) (bytes : List ℕ) → at < length cs → Copied cs at len bytes → byte_at cs (at + len) ≡ Some b → (b ≡ 10 → ⊥)
     → len ≡ 80 → Err UnfitLine ≡ fetched (drop at cs)
@@ -116,29 +66,3 @@ fetched-long cs at len b bytes h k e n m =
     let size : 80 < length (first_line (drop at cs)) = rw (k.line, more, length-append (take len bytes) (b ∷ first_line (drop (at + len + 1) cs)), full) (omega arith) in
     let bad : fits (first_line (drop at cs)) ≡ false = and_left _ _ (lt-leb _ 80 size) in
     sym (fetched_line cs at h ∙ (rw bad refl))
-
-pub byte_none : (cs : List ℕ) (i : ℕ) → None ≡ byte_at cs i → length cs ≤ i
-byte_none cs i e = elim (cases_lt i (length cs)) [
-  | inl h ↦ let f : byte_at cs i ≡ Some (get_or cs i 0) = cond-true _ _ _ (lt-ltb _ _ h) in let z : ◌≡◌ {A = ℕ} 0 1 = cc in omega arith
-  | inr h ↦ h
-]
-
--- whether anything is left at a place
-pub nil_tested : (cs : List ℕ) (i : ℕ) (r : Bool) → is_some (byte_at cs i) ≡ not r → r ≡ is_nil (drop i cs)
-nil_tested cs i r e = elim (cases_lt i (length cs)) [
-  | inl h ↦
-      let f : byte_at cs i ≡ Some (get_or cs i 0) = cond-true _ _ _ (lt-ltb _ _ h) in
-      let n : true ≡ not r = sym (ap is_some f) ∙ e in
-      flip r n ∙ sym (at_drop_more is_nil cs i 0 h)
-  | inr h ↦
-      let f : byte_at cs i ≡ None = cond-false _ _ _ (le-ltb _ _ h) in
-      let n : false ≡ not r = sym (ap is_some f) ∙ e in
-      stay r n ∙ sym (at_drop_all is_nil cs i h)
-]
-  where
-    flip : (r : Bool) → true ≡ not r → r ≡ false
-    flip true e = absurd (false≢true (sym e))
-    flip false e = refl
-    stay : (r : Bool) → false ≡ not r → r ≡ true
-    stay true e = refl
-    stay false e = absurd (false≢true e)

@@ -55,10 +55,8 @@ impl Heading {
     {
         if gap {
             self.push(b' ');
-            self.push(b);
-        } else {
-            self.push(b);
         }
+        self.push(b);
     }
 }
 

@@ -4,7 +4,6 @@ ghost use Rattle.frame.specs.Blocks.{frame_as};
 ghost use Rattle.frame.specs.Frames.{Spacious, all_taken, at, block_of, ended, framed, has_title, is_header, opened, outcome, stepped, unread};
 ghost use Rattle.frame.specs.Rules.{Exactly, Right};
 ghost use Rattle.std.specs.Option.{option_copied};
-ghost use Rattle.std.specs.Str.{bytes_eq};
 
 use crate::heading::{Caption, Heading, is_text};
 use crate::line::{Line, LineKind, fetch};
@@ -164,13 +163,6 @@ fn all_taken(blocks: &[Block]) -> bool
         && has_title(blocks, Title::SolutionMatrixEstimate)
 }
 
-// Whether two headings have the same words.
-fn same_words(a: &Heading, b: &Heading) -> bool
-    ensures { result ≡ bytes_eq a.now.text b.now.text }
-{
-    a.text == b.text
-}
-
 fn is_header(line: &Line) -> bool
     ensures { result ≡ is_header line.now }
 {
@@ -193,7 +185,9 @@ impl Progress {
         ensures progress { outcome result self.new ≡ opened at.now.place self.old.ended at.now.line }
     {
         let heading = at.line.heading();
-        let caption = heading.caption().ok_or(at.refuse(Fault::WrongTitle))?;
+        let caption = heading
+            .caption()
+            .ok_or_else(|| at.refuse(Fault::WrongTitle))?;
         if has_title(self.ended.as_slice(), caption.title) {
             return Err(at.refuse(Fault::TitleTwice));
         }
@@ -213,7 +207,10 @@ impl Progress {
         requires { Spacious self.old }
         ensures progress { outcome result self.new ≡ stepped at.now.place self.old at.now.line }
     {
-        let kind = at.line.kind().ok_or(at.refuse(Fault::UnknownLineKind))?;
+        let kind = at
+            .line
+            .kind()
+            .ok_or_else(|| at.refuse(Fault::UnknownLineKind))?;
         match (&mut self.stage, kind) {
             (Stage::Start, _) => {
                 if !is_header(&at.line) {
@@ -229,7 +226,7 @@ impl Progress {
                 Ok(())
             }
             (Stage::Inside { heading, block }, LineKind::End) => {
-                if !same_words(&at.line.heading(), heading) {
+                if at.line.heading().text != heading.text {
                     return Err(at.refuse(Fault::BrokenFrame));
                 }
                 block.end = at.place.line;
@@ -245,7 +242,9 @@ impl Progress {
     fn end(&self, at: &LineAt) -> Result<Frame, Refusal>
         ensures { result ≡ ended at.now.place self.now at.now.line }
     {
-        at.line.kind().ok_or(at.refuse(Fault::UnknownLineKind))?;
+        at.line
+            .kind()
+            .ok_or_else(|| at.refuse(Fault::UnknownLineKind))?;
         match self.stage {
             Stage::Start if !is_header(&at.line) => Err(at.refuse(Fault::NoHeaderLine)),
             Stage::Outside if is_text(&at.line.columns, b"%ENDSNX") => {
@@ -272,15 +271,20 @@ fn walk_lines<S: Source>(source: &S) -> Result<Frame, Refusal>
     }
     let mut place = Place { byte: 0, line: 1 };
     let mut progress = Progress::new();
-    while let Some(line) = fetch(source, place.byte).map_err(|fault| place.refuse(fault))? {
-        let at = LineAt { place, line };
-        if is_last(source, &mut place, &at) {
-            return progress.end(&at);
+    loop {
+        match fetch(source, place.byte) {
+            Ok(Some(line)) => {
+                let at = LineAt { place, line };
+                if is_last(source, &mut place, &at) {
+                    return progress.end(&at);
+                }
+                progress.step(&at)?;
+                place = at.next();
+            }
+            Ok(None) => return Err(place.refuse(Fault::NoHeaderLine)),
+            Err(fault) => return Err(place.refuse(fault)),
         }
-        progress.step(&at)?;
-        place = at.next();
     }
-    Err(place.refuse(Fault::NoHeaderLine))
 }
 
 // The blocks of a source in its order, or the first fault of its frame: line by line the checks of a line, and at the footer

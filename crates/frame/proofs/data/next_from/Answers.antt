@@ -1,4 +1,4 @@
-use Rattle.std.proofs.Common.{drop, Some, None, sym, ap, refl, ◌∙◌, arith}
+use Rattle.std.proofs.Common.{drop, Some, None, sym, ap, ◌∙◌, arith}
 use Rattle.frame.specs.DataLines.{Walked, walked}
 use Rattle.frame.specs.Lines.{lines}
 use Rattle.frame.specs.declared.place.Place.{Place}

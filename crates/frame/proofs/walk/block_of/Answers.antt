@@ -1,9 +1,8 @@
-use Rattle.std.proofs.Common.{◌≡◌, Bool, eqb, sym, ◌∙◌, rules, tests}
+use Rattle.std.proofs.Common.{◌≡◌, eqb, sym, ◌∙◌, rules, tests}
 use Rattle.std.proofs.lemmas.Iterator.{YieldsList-from_slice}
 use Rattle.std.proofs.lemmas.Iterator.Search.{find_from_yields_List}
 use Rattle.frame.specs.Titles.{place_of}
 use Rattle.frame.specs.contracts.title.TitlePartialEq.TheImpl.{ghosts}
-use Rattle.frame.specs.declared.title.Title.{Title}
 use Rattle.frame.proofs.Titled.{block_found, same_place}
 use Rattle.frame.proofs.walk.block_of.Goals as goal
 

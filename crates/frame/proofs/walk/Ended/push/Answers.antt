@@ -1,4 +1,3 @@
-use Rattle.std.proofs.Common.{arith, ap}
 use Rattle.frame.proofs.Pads.{pushed}
 use Rattle.frame.specs.Blocks.{no_block}
 use Rattle.frame.proofs.walk.Ended.push.Goals as goal
