@@ -1,4 +1,5 @@
 -- An a priori put and dropped, on the tables as in the rules. Assumes nothing.
+use Rattle.std.specs.Result.{result_unwrap_or}
 use Rattle.std.proofs.Common.{◌≡◌, ◌≤◌, true, false, List, length, is_ok, Err, sym, refl, ap, ◌∙◌, ap₂}
 use Rattle.model.proofs.Keeping.{apriori_drop_kept, apriori_put_kept}
 use Rattle.model.proofs.Laying.{served_in_lem}
@@ -18,7 +19,7 @@ use Rattle.refusals.specs.declared.Fault.TheVariants.{NeedMissing, RecordAbsent}
 use Rattle.std.proofs.lemmas.Bool.{cond_both}
 use Rattle.tables.specs.Laws.{put_rule}
 use Rattle.tables.specs.Lists.{holds, put, without}
-use Rattle.tables.specs.Rows.{plain, value_or}
+use Rattle.tables.specs.Rows.{plain}
 
 -- other a prioris that fit and are kept: register and tables that lay them out stand for them
 aprioris_stand : (x : State) (s : Solution) (ys : List Parameter) → Stands x s → length ys ≤ x.places.aprioris → Kept (with_aprioris s ys)
@@ -48,9 +49,9 @@ apriori_put_does r v x e = record {
       let there : served s r ≡ true = sym (served_in_lem x s r st) ∙ e in
       let rows = put-laid parameter_order parameter_order_lem blank_parameter r n s.aprioris st.fits.aprioris st.kept.ordered.aprioris in
       let count = put_count parameter_order parameter_order_lem blank_parameter r n s.aprioris st.fits.aprioris st.kept.ordered.aprioris in
-      stands_as (apriori_put r x) (state_of x.places (with_aprioris s ys)) (value_or (put_apriori x.places s r) s) (with_aprioris s ys)
+      stands_as (apriori_put r x) (state_of x.places (with_aprioris s ys)) (result_unwrap_or (put_apriori x.places s r) s) (with_aprioris s ys)
       (ap (apriori_put r) st.laid_out ∙ ap₂ (apriori_rows (state_of x.places s)) rows count)
-      (ap (λ t. value_or t s) (demand_yes NeedMissing (served s r) _ there) ∙ put_if parameter_order r n (with_aprioris s) s.aprioris)
+      (ap (λ t. result_unwrap_or t s) (demand_yes NeedMissing (served s r) _ there) ∙ put_if parameter_order r n (with_aprioris s) s.aprioris)
       (aprioris_stand x s ys st (put-fits parameter_order r n s.aprioris st.fits.aprioris)
       (cond_both (is_ok (put_rule parameter_order r n s.aprioris)) (put parameter_order r s.aprioris) s.aprioris (λ zs. Kept (with_aprioris s zs))
       (λ _. apriori_put_kept r v s there st.kept) (λ _. st.kept)));
@@ -68,7 +69,7 @@ apriori_drop_does r x = record {
       let ys = without parameter_order r s.aprioris in
       let rows = drop-laid parameter_order parameter_order_lem blank_parameter r n s.aprioris st.fits.aprioris st.kept.ordered.aprioris in
       let count = drop-count parameter_order parameter_order_lem blank_parameter r n s.aprioris st.fits.aprioris st.kept.ordered.aprioris in
-      stands_as (apriori_dropped r x) (state_of x.places (with_aprioris s ys)) (value_or (drop_apriori s r) s) (with_aprioris s ys)
+      stands_as (apriori_dropped r x) (state_of x.places (with_aprioris s ys)) (result_unwrap_or (drop_apriori s r) s) (with_aprioris s ys)
       (ap (apriori_dropped r) st.laid_out ∙ ap₂ (apriori_rows (state_of x.places s)) rows count)
       (drop_if parameter_order r (with_aprioris s) s.aprioris)
       (aprioris_stand x s ys st (drop-fits parameter_order r n s.aprioris st.fits.aprioris) (apriori_drop_kept r s st.kept));

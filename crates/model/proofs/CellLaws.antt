@@ -26,7 +26,7 @@ use Rattle.refusals.specs.declared.Fault.TheVariants.{NeedMissing, RecordAbsent}
 use Rattle.std.proofs.lemmas.Bool.{and_from, and_parts, and_right, both_ways, cond-false, cond-true, or_cases, or_left, or_right}
 use Rattle.std.specs.Ordering.{ordering_reverse}
 use Rattle.tables.proofs.Edits.{back_law, rises-put, rises-without}
-use Rattle.tables.proofs.Orders.{alike_right, own_key}
+use Rattle.std.proofs.lemmas.Cmp.{alike_right, tied_itself}
 use Rattle.tables.specs.Lists.{holds, put, without}
 use mathlib.Core.Path.{fun_ext}
 
@@ -49,7 +49,7 @@ if_false a true h e = absurd (both_ways a e (h refl))
 if_false a false h e = refl
 
 turn_equal : (p q : Parameter) → parameter_order p q ≡ Equal → parameter_order q p ≡ Equal
-turn_equal p q e = parameter_order_lem.flip q p ∙ ap ordering_reverse e
+turn_equal p q e = parameter_order_lem.antisymm q p ∙ ap ordering_reverse e
 
 -- ---- an estimate is put
 
@@ -96,7 +96,7 @@ module _ (s : Solution) (k : Kept s) (p q : Parameter) (v : Number) (hp : holds 
   -- a record of a key that is held
   held-alike : (x y : Parameter) → holds parameter_order y s.estimates ≡ true → same_key x y ≡ true → holds parameter_order x s.estimates ≡ true
   held-alike x y h e =
-      holds-alike parameter_order x y (λ z. alike_right parameter_order parameter_order_lem z y x (turn_equal x y (is_equal_lem (parameter_order x y) e))) s.estimates ∙ h
+      holds-alike parameter_order x y (λ z. sym (alike_right parameter_order_lem y x z (turn_equal x y (is_equal_lem (parameter_order x y) e)))) s.estimates ∙ h
 
   pair_held : (a b : Parameter) → same_pair p q a b ≡ true → (holds parameter_order a s.estimates ≡ true) × (holds parameter_order b s.estimates ≡ true)
   pair_held a b e =
@@ -114,7 +114,7 @@ module _ (s : Solution) (k : Kept s) (p q : Parameter) (v : Number) (hp : holds 
       (λ e. cond-false (same_pair p q a b) v (look s a b) (if_false (holds parameter_order b es) (same_pair p q a b) (λ t. (pair_held a b t).1) e) ∙ look_no_second s a b e)
 
   own_pair : (same_key p p && same_key q q) ≡ true
-  own_pair = and_from _ _ (ap is_equal (own_key parameter_order parameter_order_lem p)) (ap is_equal (own_key parameter_order parameter_order_lem q))
+  own_pair = and_from _ _ (ap is_equal (tied_itself parameter_order_lem p)) (ap is_equal (tied_itself parameter_order_lem q))
 
   pub cell_now : CellIsSet s (with_cell s p q v) p q v
   cell_now = record {
@@ -122,7 +122,7 @@ module _ (s : Solution) (k : Kept s) (p q : Parameter) (v : Number) (hp : holds 
     other =
         set-seen q p
         ∙ cond-true (same_pair p q q p) v (look s q p)
-        (or_right (same_key q p && same_key p q) _ (and_from _ _ (ap is_equal (own_key parameter_order parameter_order_lem q)) (ap is_equal (own_key parameter_order parameter_order_lem p))));
+        (or_right (same_key q p && same_key p q) _ (and_from _ _ (ap is_equal (tied_itself parameter_order_lem q)) (ap is_equal (tied_itself parameter_order_lem p))));
     cells = set-seen;
     head = refl;
     sites = refl;
@@ -204,7 +204,7 @@ estimate_put_drop P s t bs k gone e =
     let none : holds parameter_order q es ≡ false = absent_by (holds parameter_order q es) _ (sym (drops_named P s bs q named) ∙ gone) in
     let up = k.ordered.estimates in
     let u = with_estimates s (put parameter_order r es) in
-    let there : holds parameter_order q (put parameter_order r es) ≡ true = holds-new parameter_order parameter_order_lem q r es up (own_key parameter_order parameter_order_lem r) in
+    let there : holds parameter_order q (put parameter_order r es) ≡ true = holds-new parameter_order parameter_order_lem q r es up (tied_itself parameter_order_lem r) in
     let back : without parameter_order q (put parameter_order r es) ≡ es =
     without-alike parameter_order q r (λ y. refl) (put parameter_order r es) ∙ back_law parameter_order parameter_order_lem r es up (sym (holds-alike parameter_order q r (λ y. refl) es) ∙ none) in
     drops_named P t bs q named

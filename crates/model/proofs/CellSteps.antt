@@ -20,7 +20,6 @@ use Rattle.std.proofs.lemmas.Bool.{and_from, and_left, and_parts, and_right, cas
 use Rattle.std.proofs.lemmas.Bool.Decides.{nat_tests}
 use Rattle.tables.proofs.Standing.{length-laid}
 use Rattle.tables.specs.Lists.{holds as is_held, laid, place, put, without}
-use Rattle.tables.specs.declared.table.Place.TheVariants.{Found, Gap}
 use Rattle.triangle.proofs.Drawn.{drawn_as, pinned}
 use Rattle.triangle.proofs.Lifts.{jump_le}
 use Rattle.triangle.proofs.Rules.{closes, opens}
@@ -111,7 +110,7 @@ module _ (p : ℕ) (s : Solution) (limit : p ≤ 2000) (fits : length s.estimate
       (and_right (leb (n + 1) 2000) (leb (tri (n + 1)) (length table))
       (lt-leb (tri (n + 1)) (length table) (omega (arith, long_table))))
 
-  module _ (r : Parameter) (k : ℕ) (at : place parameter_order r s.estimates ≡ Gap k) where
+  module _ (r : Parameter) (k : ℕ) (at : place parameter_order r s.estimates ≡ Err k) where
     abbrev es' : List Parameter
     es' = put parameter_order r s.estimates
 
@@ -153,17 +152,17 @@ module _ (p : ℕ) (s : Solution) (limit : p ≤ 2000) (fits : length s.estimate
       (λ i j. sym (cond-false (openable (length table) n k) (opened zero_number n k (cell zero_number table) i j) (cell zero_number table i j) (cannot_open k full))))
 
   -- an estimate replaced has the cells of the one before
-  pub replaced_cells : (r : Parameter) (k : ℕ) → place parameter_order r s.estimates ≡ Found k → arranged (put parameter_order r s.estimates) (look s) ≡ s.cells
+  pub replaced_cells : (r : Parameter) (k : ℕ) → place parameter_order r s.estimates ≡ Ok k → arranged (put parameter_order r s.estimates) (look s) ≡ s.cells
   replaced_cells r k at =
       let long : length (put parameter_order r s.estimates) ≡ n = length_replaced parameter_order r s.estimates k at in
       arranged_is (put parameter_order r s.estimates) (look s) (look_sym s) s.cells (o.whole ∙ ap tri (sym long))
       (λ i j hi hj. sym (look-found s _ _ i j (stays i (omega arith)) (stays j (omega arith))))
     where
-      stays_by : (b : Bool) (i : ℕ) → (b ≡ true → i ≡ k) → i < n → place parameter_order (cond b r (get_or s.estimates i blank_parameter)) s.estimates ≡ Found i
-      stays_by true i e lt = at ∙ ap Found (sym (e refl))
+      stays_by : (b : Bool) (i : ℕ) → (b ≡ true → i ≡ k) → i < n → place parameter_order (cond b r (get_or s.estimates i blank_parameter)) s.estimates ≡ Ok i
+      stays_by true i e lt = at ∙ ap Ok (sym (e refl))
       stays_by false i e lt = placed_own parameter_order parameter_order_lem s.estimates o.estimates i blank_parameter lt
 
-      stays : (i : ℕ) → i < n → place parameter_order (get_or (put parameter_order r s.estimates) i blank_parameter) s.estimates ≡ Found i
+      stays : (i : ℕ) → i < n → place parameter_order (get_or (put parameter_order r s.estimates) i blank_parameter) s.estimates ≡ Ok i
       stays i lt =
           ap (λ x. place parameter_order x s.estimates) (replaced_at parameter_order r s.estimates k at i blank_parameter)
           ∙ stays_by (eqb i k) i (eqb-true i k) lt
@@ -178,7 +177,7 @@ module _ (p : ℕ) (s : Solution) (limit : p ≤ 2000) (fits : length s.estimate
       (le-leb (tri n) (length table) (omega (arith, long_table, tri_le n p fits))))
       (lt-ltb k n lt)
 
-  module _ (r : Parameter) (k : ℕ) (at : place parameter_order r s.estimates ≡ Found k) where
+  module _ (r : Parameter) (k : ℕ) (at : place parameter_order r s.estimates ≡ Ok k) where
     abbrev fewer : List Parameter
     fewer = without parameter_order r s.estimates
 
@@ -213,7 +212,7 @@ module _ (p : ℕ) (s : Solution) (limit : p ≤ 2000) (fits : length s.estimate
       (lt-ltb (max i j) 2000 (omega arith))
       (lt-ltb (spot i j) (length table) (omega (arith, long_table, low_below (max i j) (min i j) p (omega arith) (omega arith))))
 
-  module _ (a b : Parameter) (v : Number) (i j : ℕ) (at_a : place parameter_order a s.estimates ≡ Found i) (at_b : place parameter_order b s.estimates ≡ Found j) where
+  module _ (a b : Parameter) (v : Number) (i j : ℕ) (at_a : place parameter_order a s.estimates ≡ Ok i) (at_b : place parameter_order b s.estimates ≡ Ok j) where
     -- the two ranks have the keys of a and b exactly if they are i and j
     pair_at : (k l : ℕ) → k < n → l < n → same_pair a b (get_or s.estimates k blank_parameter) (get_or s.estimates l blank_parameter) ≡ same i j k l
     pair_at k l hk hl =
@@ -275,43 +274,36 @@ module _ (x : State) (s : Solution) (st : Stands x s) where
   seen_as : {A : Type 0} (f : List Number → ℕ → A) → f x.cells x.used.estimates ≡ f (laid zero_number (tri p) s.cells) (length s.estimates)
   seen_as f = ap₂ f laid_cells used_many
 
-  pub open_answers : (r : Parameter) (k : ℕ) → place parameter_order r s.estimates ≡ Gap k → length s.estimates < p → open_answer (Gap k) x ≡ Ok tt
+  pub open_answers : (r : Parameter) (k : ℕ) → place parameter_order r s.estimates ≡ Err k → length s.estimates < p → open_answer (Err k) x ≡ Ok tt
   open_answers r k at lt =
       seen_as (λ c u. cond (openable (length c) u k) (Ok tt) (Err TableFull))
       ∙ cond-true _ (Ok tt) (Err TableFull) (can_open p s limit st.fits.estimates st.kept.ordered k lt (gap_says parameter_order r s.estimates k at).within)
 
-  pub open_refused : (k : ℕ) → p ≤ length s.estimates → open_answer (Gap k) x ≡ Err TableFull
+  pub open_refused : (k : ℕ) → p ≤ length s.estimates → open_answer (Err k) x ≡ Err TableFull
   open_refused k full =
       seen_as (λ c u. cond (openable (length c) u k) (Ok tt) (Err TableFull))
       ∙ cond-false _ (Ok tt) (Err TableFull) (cannot_open p s limit st.fits.estimates st.kept.ordered k full)
 
-  pub rank_opened_lem : (r : Parameter) (k : ℕ) → place parameter_order r s.estimates ≡ Gap k → length s.estimates < p
-      → rank_opened (Gap k) x ≡ cell_rows x (laid zero_number (tri p) (with_estimates s (put parameter_order r s.estimates)).cells)
+  pub rank_opened_lem : (r : Parameter) (k : ℕ) → place parameter_order r s.estimates ≡ Err k → length s.estimates < p
+      → rank_opened (Err k) x ≡ cell_rows x (laid zero_number (tri p) (with_estimates s (put parameter_order r s.estimates)).cells)
   rank_opened_lem r k at lt =
       ap (cell_rows x)
       (seen_as (λ c u. rows_of p (opened_in zero_number (length c) u k (cell zero_number c)))
       ∙ opened-cells p s limit st.fits.estimates st.kept.ordered r k at lt)
 
-  pub rank_unopened : (k : ℕ) → p ≤ length s.estimates → rank_opened (Gap k) x ≡ x
-  rank_unopened k full =
-      ap (cell_rows x)
-      (seen_as (λ c u. rows_of p (opened_in zero_number (length c) u k (cell zero_number c)))
-      ∙ unopened_cells p s limit st.fits.estimates st.kept.ordered k full
-      ∙ sym laid_cells)
-
-  pub close_answers : (r : Parameter) (k : ℕ) → place parameter_order r s.estimates ≡ Found k → close_answer k x ≡ Ok tt
+  pub close_answers : (r : Parameter) (k : ℕ) → place parameter_order r s.estimates ≡ Ok k → close_answer k x ≡ Ok tt
   close_answers r k at =
       seen_as (λ c u. cond (closable (length c) u k) (Ok tt) (Err RecordAbsent))
       ∙ cond-true _ (Ok tt) (Err RecordAbsent) (can_close p s limit st.fits.estimates st.kept.ordered k (found_says parameter_order r s.estimates k at).within)
 
-  pub rank_closed_lem : (r : Parameter) (k : ℕ) → place parameter_order r s.estimates ≡ Found k
+  pub rank_closed_lem : (r : Parameter) (k : ℕ) → place parameter_order r s.estimates ≡ Ok k
       → rank_closed k x ≡ cell_rows x (laid zero_number (tri p) (with_estimates s (without parameter_order r s.estimates)).cells)
   rank_closed_lem r k at =
       ap (cell_rows x)
       (seen_as (λ c u. rows_of p (closed_in zero_number (length c) u k (cell zero_number c)))
       ∙ closed-cells p s limit st.fits.estimates st.kept.ordered r k at)
 
-  module _ (a b : Parameter) (i j : ℕ) (at_a : place parameter_order a s.estimates ≡ Found i) (at_b : place parameter_order b s.estimates ≡ Found j) where
+  module _ (a b : Parameter) (i j : ℕ) (at_a : place parameter_order a s.estimates ≡ Ok i) (at_b : place parameter_order b s.estimates ≡ Ok j) where
     sees_cell : seen (length x.cells) i j ≡ true
     sees_cell =
         ap (λ c. seen (length c) i j) laid_cells

@@ -1,4 +1,5 @@
 -- Edits of estimates and of cells: what the steps on a register and its tables answer and leave, against the rules on solutions. Assumes nothing.
+use Rattle.std.specs.Result.{result_unwrap_or}
 use Rattle.std.proofs.Common.{◌≡◌, ℕ, ◌-◌, ◌<◌, ◌≤◌, max, Bool, true, false, cond, ◌&&◌, ◌||◌, ltb, leb, List, length, is_ok, Ok, Err, Result, sym, refl, ap, ◌∙◌, subst, ap₂, inl, ⊎_elim, arith}
 use Rattle.decimals.proofs.Meaning.{numbers_come_back}
 use Rattle.decimals.specs.Number.{read_number, zero_number}
@@ -30,9 +31,7 @@ use Rattle.tables.proofs.Standing.{laid_law, length-laid}
 use Rattle.tables.specs.Keys.{Rising}
 use Rattle.tables.specs.Laws.{Among, put_rule}
 use Rattle.tables.specs.Lists.{holds, laid, place, put, without}
-use Rattle.tables.specs.Rows.{plain, value_or}
-use Rattle.tables.specs.declared.table.Place.{Place}
-use Rattle.tables.specs.declared.table.Place.TheVariants.{Found, Gap}
+use Rattle.tables.specs.Rows.{plain}
 use Rattle.triangle.specs.Triangle.{cell, tri}
 
 -- ---- cells stay numbers that reading can give
@@ -124,7 +123,7 @@ does_by : (rule : Counts → Solution → Result Solution Fault) (u : Solution �
 does_by rule u x a y p h = record {
   places = p;
   answers = λ s st. (h s st).1 ∙ ap plain (sym (h s st).0);
-  leaves = λ s st. subst (λ r. Stands y (value_or r s)) (sym (h s st).0) (h s st).2;
+  leaves = λ s st. subst (λ r. Stands y (result_unwrap_or r s)) (sym (h s st).0) (h s st).2;
 }
 
 no_error : {A : Type 0} (P : Type 0) (a : A) (f : Fault) → ◌≡◌ {A = Result A Fault} (Ok a) (Err f) → P
@@ -141,13 +140,13 @@ record Ready (p : ℕ) (r : Parameter) (es : List Parameter) : Type 0 where
   counted : put_rule parameter_order r p es ≡ Ok (length (put parameter_order r es))
   roomy : (holds parameter_order r es || ltb (length es) p) ≡ true
 
-ready_found : (p : ℕ) (r : Parameter) (es : List Parameter) (k : ℕ) → place parameter_order r es ≡ Found k → length es ≤ p → Ready p r es
+ready_found : (p : ℕ) (r : Parameter) (es : List Parameter) (k : ℕ) → place parameter_order r es ≡ Ok k → length es ≤ p → Ready p r es
 ready_found p r es k at le =
     let h = (found_says parameter_order r es k at).held in
     let long = length_replaced parameter_order r es k at in
     record { within = omega arith; counted = cond-true (holds parameter_order r es) _ _ h ∙ ap Ok (sym long); roomy = or_left _ _ h }
 
-ready_gap : (p : ℕ) (r : Parameter) (es : List Parameter) (k : ℕ) → place parameter_order r es ≡ Gap k → length es < p → Ready p r es
+ready_gap : (p : ℕ) (r : Parameter) (es : List Parameter) (k : ℕ) → place parameter_order r es ≡ Err k → length es < p → Ready p r es
 ready_gap p r es k at lt =
     let h = (gap_says parameter_order r es k at).held in
     let long = length_added parameter_order r es k at in
@@ -170,7 +169,7 @@ module _ (P : Counts) (s : Solution) (r : Parameter) (fits : length s.estimates 
       let law = laid_law parameter_order blank_parameter parameter_order_lem P.estimates r s.estimates fits up in
       ap₂ (estimate_rows (opening P s r))
       (law.put-rows ∙ ap (λ (a : Result ℕ Fault). laid blank_parameter P.estimates (cond (is_ok a) (put parameter_order r s.estimates) s.estimates)) ready.counted)
-      (ap (λ (a : Result ℕ Fault). value_or a (length s.estimates)) put_count)
+      (ap (λ (a : Result ℕ Fault). result_unwrap_or a (length s.estimates)) put_count)
 
 put-accepted : (P : Counts) (s : Solution) (r : Parameter) → served s r ≡ true → Ready P.estimates r s.estimates
     → put_estimate P s r ≡ Ok (with_estimates s (put parameter_order r s.estimates))
@@ -183,13 +182,13 @@ module _ (r : Parameter) (x : State) (s : Solution) (st : Stands x s) where
   long-cells = ap (λ y. length y.cells) st.laid_out ∙ length-laid zero_number (tri x.places.estimates) s.cells (cells_fit x s st)
 
   -- where opening was answered Ok, r has a place, and the triangle is that of the solution with r
-  opened_by : (q : Place) → place parameter_order r s.estimates ≡ q → open_answer q x ≡ Ok tt → Ready x.places.estimates r s.estimates × (rank_opened q x ≡ opening x.places s r)
-  opened_by (Found k) at ok =
+  opened_by : (q : Result ℕ ℕ) → place parameter_order r s.estimates ≡ q → open_answer q x ≡ Ok tt → Ready x.places.estimates r s.estimates × (rank_opened q x ≡ opening x.places s r)
+  opened_by (Ok k) at ok =
       let p = x.places.estimates in
       let c : s.cells ≡ (with_estimates s (put parameter_order r s.estimates)).cells =
       sym (replaced_cells p s (estimates_limit x.places st.limits) st.fits.estimates st.kept.ordered r k at) in
       (ready_found p r s.estimates k at st.fits.estimates, st.laid_out ∙ ap (λ cs. cell_rows (state_of x.places s) (laid zero_number (tri p) cs)) c)
-  opened_by (Gap k) at ok =
+  opened_by (Err k) at ok =
       let p = x.places.estimates in
       let lt : length s.estimates < p =
       ⊎_elim (λ l. l) (λ full. no_error _ tt TableFull (sym ok ∙ open_refused x s st k full)) (cases_lt (length s.estimates) p) in
@@ -222,10 +221,10 @@ estimate_put_lacking r x lacks =
     (sym (served_in_lem x s r st) ∙ lacks))
 
 -- opening is refused only where no place is free
-full_by : (r : Parameter) (x : State) (s : Solution) → Stands x s → (q : Place) (f : Fault) → place parameter_order r s.estimates ≡ q → open_answer q x ≡ Err f
+full_by : (r : Parameter) (x : State) (s : Solution) → Stands x s → (q : Result ℕ ℕ) (f : Fault) → place parameter_order r s.estimates ≡ q → open_answer q x ≡ Err f
     → ((holds parameter_order r s.estimates || ltb (length s.estimates) x.places.estimates) ≡ false) × (TableFull ≡ f)
-full_by r x s st (Found k) f at refuses = no_error _ tt f refuses
-full_by r x s st (Gap k) f at refuses =
+full_by r x s st (Ok k) f at refuses = no_error _ tt f refuses
+full_by r x s st (Err k) f at refuses =
     let n = length s.estimates in
     let p = x.places.estimates in
     ⊎_elim
@@ -242,15 +241,15 @@ estimate_put_full r x f met refuses =
 
 -- ---- ranks of estimates
 
-rank_found : (q : Place) (k : ℕ) → ranked_at q ≡ Ok k → q ≡ Found k
-rank_found (Found m) k e = cc
-rank_found (Gap m) k e = no_error _ k RecordAbsent (sym e)
+rank_found : (q : Result ℕ ℕ) (k : ℕ) → ranked_at q ≡ Ok k → q ≡ Ok k
+rank_found (Ok m) k e = cc
+rank_found (Err m) k e = no_error _ k RecordAbsent (sym e)
 
-rank_gap : (q : Place) (f : Fault) → ranked_at q ≡ Err f → ((k : ℕ) × (q ≡ Gap k)) × (RecordAbsent ≡ f)
-rank_gap (Found m) f e = no_error _ m f e
-rank_gap (Gap m) f e = ((m, refl), one_fault RecordAbsent f e)
+rank_gap : (q : Result ℕ ℕ) (f : Fault) → ranked_at q ≡ Err f → ((k : ℕ) × (q ≡ Err k)) × (RecordAbsent ≡ f)
+rank_gap (Ok m) f e = no_error _ m f e
+rank_gap (Err m) f e = ((m, refl), one_fault RecordAbsent f e)
 
-ranked : (r : Parameter) (x : State) (s : Solution) (k : ℕ) → Stands x s → estimate_rank r x ≡ Ok k → place parameter_order r s.estimates ≡ Found k
+ranked : (r : Parameter) (x : State) (s : Solution) (k : ℕ) → Stands x s → estimate_rank r x ≡ Ok k → place parameter_order r s.estimates ≡ Ok k
 ranked r x s k st e = rank_found (place parameter_order r s.estimates) k (sym (ap ranked_at (estimate_place_lem x s r st)) ∙ e)
 
 unranked : (r : Parameter) (x : State) (s : Solution) (f : Fault) → Stands x s → estimate_rank r x ≡ Err f → (holds parameter_order r s.estimates ≡ false) × (RecordAbsent ≡ f)
@@ -265,7 +264,7 @@ abbrev closing : Counts → Solution → Parameter → State
 closing P s r = cell_rows (state_of P s) (laid zero_number (tri P.estimates) (with_estimates s (without parameter_order r s.estimates)).cells)
 
 module _ (P : Counts) (s : Solution) (r : Parameter) (k : ℕ) (fits : length s.estimates ≤ P.estimates) (up : Rising parameter_order s.estimates)
-    (at : place parameter_order r s.estimates ≡ Found k) where
+    (at : place parameter_order r s.estimates ≡ Ok k) where
   drop-count : estimate_drop_answer r (closing P s r) ≡ Ok (length (without parameter_order r s.estimates))
   drop-count =
       let long = length_dropped parameter_order r s.estimates k at in
@@ -278,7 +277,7 @@ module _ (P : Counts) (s : Solution) (r : Parameter) (k : ℕ) (fits : length s.
   drop_lays =
       ap₂ (estimate_rows (closing P s r))
       (laid_law parameter_order blank_parameter parameter_order_lem P.estimates r s.estimates fits up).drop-rows
-      (ap (λ (a : Result ℕ Fault). value_or a (length s.estimates)) drop-count)
+      (ap (λ (a : Result ℕ Fault). result_unwrap_or a (length s.estimates)) drop-count)
 
 pub estimate_drop_does : (r : Parameter) (x : State) (k : ℕ) → estimate_rank r x ≡ Ok k → close_answer k x ≡ Ok tt → (y : State)
     → (length x.cells ≡ tri x.places.estimates → y ≡ rank_closed k x) → y.places ≡ x.places

@@ -1,4 +1,5 @@
 -- Each edit keeps what holds of every solution that a register comes to hold. Assumes nothing.
+use Rattle.std.specs.Cmp.{IsTotalOrder}
 use Rattle.codes.specs.Order.{is_equal}
 use Rattle.model.proofs.Tables.{among_any, any_among, any_put, any_without, equal_or_not, holds-put, holds-without, is_equal_lem}
 use Rattle.model.specs.Edits.{with_aprioris, with_head, with_sites, with_spans}
@@ -21,13 +22,13 @@ use Rattle.std.proofs.lemmas.Bool.{and_cases, and_from, and_parts, both_ways, ca
 use Rattle.std.specs.Ordering.{ordering_reverse}
 use Rattle.std.proofs.Common.{◌≡◌, Bool, true, false, not, ◌&&◌, ◌||◌, List, Option, Ordering, Equal, sym, refl, ap, ◌∙◌, subst, ap₂, ⊎_elim}
 use Rattle.tables.proofs.Edits.{drop_law, put_law, rises-put, rises-without}
-use Rattle.tables.specs.Keys.{Order, Rising}
+use Rattle.tables.specs.Keys.{Rising}
 use Rattle.tables.specs.Laws.{Among}
 use Rattle.tables.specs.Lists.{put, without}
 
 -- ---- what holds of each record
 
-module _ {R : Type 0} (cmp : R → R → Ordering) (o : Order cmp) (Q : R → Type 0) (r : R) (xs : List R) (up : Rising cmp xs) (all : (x : R) → Among x xs → Q x) where
+module _ {R : Type 0} (cmp : R → R → Ordering) (o : IsTotalOrder cmp) (Q : R → Type 0) (r : R) (xs : List R) (up : Rising cmp xs) (all : (x : R) → Among x xs → Q x) where
   pub all_put : Q r → (x : R) → Among x (put cmp r xs) → Q x
   all_put q x m = ⊎_elim (λ (e : x ≡ r). subst Q (sym e) q) (λ old. all x old.0) ((put_law cmp o r xs up).only x m)
 

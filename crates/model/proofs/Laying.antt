@@ -1,5 +1,6 @@
 -- What follows where register and tables stand for a solution. Assumes nothing.
-use Rattle.std.proofs.Common.{◌≡◌, ℕ, ◌+◌, ◌-◌, ◌≤◌, Bool, true, false, not, ◌&&◌, ◌||◌, leb, List, [], ◌∷◌, length, take, replicate, Some, None, Ok, Err, codes, Option, Ordering, Less, Equal, Greater, sym, refl, ap, ◌∙◌, ap₂, inl, arith}
+use Rattle.std.specs.Cmp.{IsTotalOrder}
+use Rattle.std.proofs.Common.{◌≡◌, ℕ, ◌+◌, ◌-◌, ◌≤◌, Bool, true, false, not, ◌&&◌, ◌||◌, leb, List, [], ◌∷◌, length, take, replicate, Some, None, Ok, Err, codes, Option, Ordering, Less, Equal, Greater, sym, refl, ap, ◌∙◌, ap₂, inl, arith, Result, is_ok}
 use Rattle.codes.specs.Order.{same_text}
 use Rattle.decimals.specs.Number.{zero_number}
 use Rattle.fields.specs.Angle.{columns}
@@ -26,11 +27,9 @@ use Rattle.std.proofs.lemmas.List.{length-replicate}
 use Rattle.std.proofs.lemmas.Bool.{and_from, and_parts, cond_both, eq-eqb, leb-true}
 use Rattle.tables.proofs.Places.{sought-place}
 use Rattle.tables.proofs.Standing.{length-laid, take-laid}
-use Rattle.tables.specs.Keys.{Order, Rising, by3}
+use Rattle.tables.specs.Keys.{Rising, by3}
 use Rattle.tables.specs.Lists.{holds, laid, place, place_from}
-use Rattle.tables.specs.Rows.{filled, found, known, sought, used_rows}
-use Rattle.tables.specs.declared.table.Place.{Place}
-use Rattle.tables.specs.declared.table.Place.TheVariants.{Found, Gap}
+use Rattle.tables.specs.Rows.{filled, known, sought, used_rows}
 use Rattle.triangle.proofs.Tri.{tri_le}
 use Rattle.triangle.specs.Triangle.{tri}
 
@@ -41,22 +40,22 @@ used-laid b n xs h =
     let e : filled (length xs) (laid b n xs) ≡ length xs = omega (arith, length-laid b n xs h) in
     ap (λ k. take k (laid b n xs)) e ∙ take-laid b n xs h
 
-found_by : (q : Ordering) (p : Place) (i : ℕ) (h : Bool) → found p ≡ h → found (by3 q p (Found i) (Gap i)) ≡ by3 q h true false
+found_by : (q : Ordering) (p : Result ℕ ℕ) (i : ℕ) (h : Bool) → is_ok p ≡ h → is_ok (by3 q p (Ok i) (Err i)) ≡ by3 q h true false
 found_by Less p i h e = e
 found_by Equal p i h e = refl
 found_by Greater p i h e = refl
 
-found_from : {R : Type 0} (cmp : R → R → Ordering) (r : R) (xs : List R) (i : ℕ) → found (place_from cmp r i xs) ≡ holds cmp r xs
+found_from : {R : Type 0} (cmp : R → R → Ordering) (r : R) (xs : List R) (i : ℕ) → is_ok (place_from cmp r i xs) ≡ holds cmp r xs
 found_from cmp r [] i = refl
 found_from cmp r (x ∷ xs) i = found_by (cmp x r) (place_from cmp r (i + 1) xs) i (holds cmp r xs) (found_from cmp r xs (i + 1))
 
-pub found-place : {R : Type 0} (cmp : R → R → Ordering) (r : R) (xs : List R) → found (place cmp r xs) ≡ holds cmp r xs
+pub found-place : {R : Type 0} (cmp : R → R → Ordering) (r : R) (xs : List R) → is_ok (place cmp r xs) ≡ holds cmp r xs
 found-place cmp r xs = found_from cmp r xs 0
 
 -- a search by halving finds what the list has
-pub known-laid : {R : Type 0} (cmp : R → R → Ordering) → Order cmp → (b r : R) (n : ℕ) (xs : List R) → length xs ≤ n → Rising cmp xs
+pub known-laid : {R : Type 0} (cmp : R → R → Ordering) → IsTotalOrder cmp → (b r : R) (n : ℕ) (xs : List R) → length xs ≤ n → Rising cmp xs
     → known cmp r (length xs) (laid b n xs) ≡ holds cmp r xs
-known-laid cmp o b r n xs h up = ap (λ ys. found (sought cmp r ys)) (used-laid b n xs h) ∙ ap found (sought-place cmp o r xs up) ∙ found-place cmp r xs
+known-laid cmp o b r n xs h up = ap (λ ys. is_ok (sought cmp r ys)) (used-laid b n xs h) ∙ ap is_ok (sought-place cmp o r xs up) ∙ found-place cmp r xs
 
 -- ---- what the tables show
 

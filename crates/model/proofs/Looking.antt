@@ -1,5 +1,6 @@
 -- The cells of a solution by the keys of its estimates, and by their ranks. Assumes nothing.
-use Rattle.std.proofs.Common.{◌≡◌, ℕ, ◌<◌, ◌≤◌, min, max, Bool, true, false, cond, ◌&&◌, ◌||◌, List, length, get_or, Equal, sym, refl, ap, ◌∙◌, ap₂, ⊎_elim, arith}
+use Rattle.std.specs.Result.{result_unwrap_or}
+use Rattle.std.proofs.Common.{◌≡◌, ℕ, ◌<◌, ◌≤◌, min, max, Bool, true, false, cond, ◌&&◌, ◌||◌, List, length, get_or, Equal, sym, refl, ap, ◌∙◌, ap₂, ⊎_elim, arith, Ok}
 use Rattle.codes.specs.Order.{is_equal}
 use Rattle.decimals.specs.Number.{zero_number}
 use Rattle.decimals.specs.declared.number.Number.{Number}
@@ -12,11 +13,9 @@ use Rattle.records.specs.KeyOrders.{parameter_order_lem}
 use Rattle.records.specs.Parameters.{blank_parameter, parameter_order}
 use Rattle.records.specs.declared.parameters.Parameter.{Parameter}
 use Rattle.std.proofs.lemmas.Bool.{and_left, and_right, cases_lt, cond-false}
-use Rattle.tables.proofs.Orders.{alike_right}
+use Rattle.std.proofs.lemmas.Cmp.{alike_right}
 use Rattle.tables.specs.Keys.{Rising}
 use Rattle.tables.specs.Lists.{holds, place}
-use Rattle.tables.specs.Rows.{found_or}
-use Rattle.tables.specs.declared.table.Place.TheVariants.{Found}
 use Rattle.triangle.proofs.Drawn.{length-rows_of, low-rows_of, pinned}
 use Rattle.triangle.proofs.Tri.{cell_sym}
 use Rattle.triangle.specs.Triangle.{cell, tri}
@@ -75,13 +74,13 @@ arranged_is es f even xs long is =
 
 -- ---- a cell by two keys
 
-pub look-found : (s : Solution) (p q : Parameter) (i j : ℕ) → place parameter_order p s.estimates ≡ Found i → place parameter_order q s.estimates ≡ Found j → look s p q ≡ cell_of s i j
+pub look-found : (s : Solution) (p q : Parameter) (i j : ℕ) → place parameter_order p s.estimates ≡ Ok i → place parameter_order q s.estimates ≡ Ok j → look s p q ≡ cell_of s i j
 unfolding look
 look-found s p q i j hp hq =
     ap₂ (λ a b. cond (a && b) (cell_of s (rank_among s.estimates p) (rank_among s.estimates q)) zero_number)
     (found_says parameter_order p s.estimates i hp).held
     (found_says parameter_order q s.estimates j hq).held
-    ∙ ap₂ (λ a b. cell_of s (found_or a 0) (found_or b 0)) hp hq
+    ∙ ap₂ (λ a b. cell_of s (result_unwrap_or a 0) (result_unwrap_or b 0)) hp hq
 
 pub look_no_first : (s : Solution) (p q : Parameter) → holds parameter_order p s.estimates ≡ false → look s p q ≡ zero_number
 unfolding look
@@ -109,10 +108,10 @@ pub look-alike : (s : Solution) → ByKeys (look s)
 unfolding look
 look-alike s p p' q q' e f =
     let es = s.estimates in
-    let a : (y : Parameter) → parameter_order y p' ≡ parameter_order y p = λ y. alike_right parameter_order parameter_order_lem y p p' e in
-    let b : (y : Parameter) → parameter_order y q' ≡ parameter_order y q = λ y. alike_right parameter_order parameter_order_lem y q q' f in
+    let a : (y : Parameter) → parameter_order y p' ≡ parameter_order y p = λ y. sym (alike_right parameter_order_lem p p' y e) in
+    let b : (y : Parameter) → parameter_order y q' ≡ parameter_order y q = λ y. sym (alike_right parameter_order_lem q q' y f) in
     sym (ap₂ (λ m n. cond (m && n) (cell_of s (rank_among es p') (rank_among es q')) zero_number) (holds-alike parameter_order p' p a es) (holds-alike parameter_order q' q b es)
-    ∙ ap₂ (λ m n. cond (holds parameter_order p es && holds parameter_order q es) (cell_of s (found_or m 0) (found_or n 0)) zero_number)
+    ∙ ap₂ (λ m n. cond (holds parameter_order p es && holds parameter_order q es) (cell_of s (result_unwrap_or m 0) (result_unwrap_or n 0)) zero_number)
     (place-alike parameter_order p' p a es)
     (place-alike parameter_order q' q b es))
 
@@ -143,8 +142,8 @@ set_sym s p q v k l = ap₂ (λ b x. cond b v x) (pair_turned p q k l) (look_sym
 
 pub pair_alike : (p q k k' l l' : Parameter) → parameter_order k k' ≡ Equal → parameter_order l l' ≡ Equal → same_pair p q k l ≡ same_pair p q k' l'
 pair_alike p q k k' l l' e f =
-    let a = λ (r : Parameter). ap is_equal (parameter_order_lem.alike k k' r e) in
-    let b = λ (r : Parameter). ap is_equal (parameter_order_lem.alike l l' r f) in
+    let a = λ (r : Parameter). ap is_equal (parameter_order_lem.congr k k' r e) in
+    let b = λ (r : Parameter). ap is_equal (parameter_order_lem.congr l l' r f) in
     ap₂ ◌||◌ (ap₂ ◌&&◌ (a p) (b q)) (ap₂ ◌&&◌ (a q) (b p))
 
 pub set-alike : (s : Solution) (p q : Parameter) (v : Number) → ByKeys (set_to s p q v)
@@ -153,7 +152,7 @@ set-alike s p q v k k' l l' e f = ap₂ (λ b x. cond b v x) (pair_alike p q k k
 -- ---- what is seen of cells that were arranged by keys
 
 module _ (t : Solution) (f : Cells) (even : Even f) (by : ByKeys f) (rising : Rising parameter_order t.estimates) (is : t.cells ≡ arranged t.estimates f) where
-  look_both : (p q : Parameter) (i j : ℕ) → place parameter_order p t.estimates ≡ Found i → place parameter_order q t.estimates ≡ Found j → look t p q ≡ f p q
+  look_both : (p q : Parameter) (i j : ℕ) → place parameter_order p t.estimates ≡ Ok i → place parameter_order q t.estimates ≡ Ok j → look t p q ≡ f p q
   look_both p q i j hp hq =
       let es = t.estimates in
       look-found t p q i j hp hq

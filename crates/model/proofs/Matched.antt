@@ -1,8 +1,9 @@
 -- Lists whose keys rise and that are equal in any order are equal.
+use Rattle.std.specs.Cmp.{IsTotalOrder}
 use Rattle.std.proofs.Common.{◌≡◌, ℕ, zero, suc, ◌<◌, List, [], ◌∷◌, length, get_or, Ordering, Less, Greater, sym, refl, ap, ◌∙◌, subst, ap₂, inl, inr, ⊎_elim, arith}
 use Rattle.model.specs.Pairings.{Pairing}
 use Rattle.std.specs.Ordering.{ordering_reverse}
-use Rattle.tables.specs.Keys.{Order, Rising}
+use Rattle.tables.specs.Keys.{Rising}
 use Rattle.tables.specs.Laws.{Among}
 
 among_at : {R : Type 0} (d : R) (xs : List R) (i : ℕ) → i < length xs → Among (get_or xs i d) xs
@@ -57,9 +58,9 @@ paired_among xs ys p e m =
 
 -- ---- lists that rise
 
-module _ {R : Type 0} (cmp : R → R → Ordering) (order : Order cmp) where
+module _ {R : Type 0} (cmp : R → R → Ordering) (order : IsTotalOrder cmp) where
   never_before : (x : R) → cmp x x ≡ Less → ⊥
-  never_before x e = let f = order.flip x x in let g : cmp x x ≡ Greater = f ∙ ap ordering_reverse e in let z : ◌≡◌ {A = ℕ} 0 1 = cc in omega arith
+  never_before x e = let f = order.antisymm x x in let g : cmp x x ≡ Greater = f ∙ ap ordering_reverse e in let z : ◌≡◌ {A = ℕ} 0 1 = cc in omega arith
 
   -- the first stands before all that follow
   pub first-before : (x : R) (xs : List R) → Rising cmp (x ∷ xs) → (e : R) → Among e xs → cmp x e ≡ Less

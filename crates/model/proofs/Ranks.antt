@@ -1,5 +1,6 @@
 -- Ranks in lists whose keys rise: where a key stands, and what stands at each rank after a put or a drop. Assumes nothing.
-use Rattle.std.proofs.Common.{◌≡◌, ℕ, suc, ◌+◌, ◌-◌, ◌<◌, ◌≤◌, Bool, true, false, cond, eqb, ltb, ◌⊎◌, List, [], ◌∷◌, length, get_or, set, Ordering, Less, Equal, Greater, sym, refl, ap, ◌∙◌, subst, inl, inr, ⊎_elim, arith}
+use Rattle.std.specs.Cmp.{IsTotalOrder}
+use Rattle.std.proofs.Common.{◌≡◌, ℕ, suc, ◌+◌, ◌-◌, ◌<◌, ◌≤◌, Bool, true, false, cond, eqb, ltb, ◌⊎◌, List, [], ◌∷◌, length, get_or, set, Ordering, Less, Equal, Greater, sym, refl, ap, ◌∙◌, subst, inl, inr, ⊎_elim, arith, Err, Ok, Result}
 use Rattle.codes.specs.Order.{is_equal}
 use Rattle.model.proofs.Tables.{holds_among}
 use Rattle.std.proofs.lemmas.List.Edits.{get_or-insert_above, get_or-insert_at, get_or-insert_below, get_or-remove_above, get_or-remove_below, length-insert, length-remove}
@@ -7,31 +8,29 @@ use Rattle.std.proofs.lemmas.List.{get_or_default, get_or-set_other, get_or-set_
 use Rattle.std.proofs.lemmas.Bool.{both_ways, cases_Bool, cases_eq, cases_lt, cond-false, cond-true, eq-eqb, le-ltb, lt-ltb, ne_eqb}
 use Rattle.std.specs.List.{insert, remove}
 use Rattle.tables.proofs.Edits.{drop_law}
-use Rattle.tables.proofs.Orders.{alike_right, own_key}
+use Rattle.std.proofs.lemmas.Cmp.{alike_right, tied_itself}
 use Rattle.tables.proofs.Places.{found_at, search_law}
-use Rattle.tables.specs.Keys.{Order, Rising, by3}
+use Rattle.tables.specs.Keys.{Rising, by3}
 use Rattle.tables.specs.Laws.{Tells}
 use Rattle.tables.specs.Lists.{holds, place, place_from, put, without}
-use Rattle.tables.specs.declared.table.Place.{Place}
-use Rattle.tables.specs.declared.table.Place.TheVariants.{Found, Gap}
 use Rattle.triangle.specs.Triangle.{jump, skip}
 
-pub cases_place : (q : Place) → ((k : ℕ) × (q ≡ Found k)) ⊎ ((k : ℕ) × (q ≡ Gap k))
-cases_place (Found k) = inl (k, refl)
-cases_place (Gap k) = inr (k, refl)
+pub cases_place : (q : Result ℕ ℕ) → ((k : ℕ) × (q ≡ Ok k)) ⊎ ((k : ℕ) × (q ≡ Err k))
+cases_place (Ok k) = inl (k, refl)
+cases_place (Err k) = inr (k, refl)
 
 -- ---- what a place says of the list: whether it holds the key, and the list after a put and after a drop
 
-abbrev Says : {R : Type 0} → List R → R → ℕ → Place → Bool → List R → List R → Type 0
-Says xs r i (Found k) h p w = (j : ℕ) × ((k ≡ i + j) × ((j < length xs) × ((h ≡ true) × ((p ≡ set xs j r) × (w ≡ remove xs j)))))
-Says xs r i (Gap k) h p w = (j : ℕ) × ((k ≡ i + j) × ((j ≤ length xs) × ((h ≡ false) × ((p ≡ insert xs j r) × (w ≡ xs)))))
+abbrev Says : {R : Type 0} → List R → R → ℕ → Result ℕ ℕ → Bool → List R → List R → Type 0
+Says xs r i (Ok k) h p w = (j : ℕ) × ((k ≡ i + j) × ((j < length xs) × ((h ≡ true) × ((p ≡ set xs j r) × (w ≡ remove xs j)))))
+Says xs r i (Err k) h p w = (j : ℕ) × ((k ≡ i + j) × ((j ≤ length xs) × ((h ≡ false) × ((p ≡ insert xs j r) × (w ≡ xs)))))
 
-says_later : {R : Type 0} (xs : List R) (r x : R) (i : ℕ) (q : Place) (h : Bool) (p w : List R) → Says xs r (i + 1) q h p w → Says (x ∷ xs) r i q h (x ∷ p) (x ∷ w)
-says_later xs r x i (Found k) h p w (j, (e, (lt, (t, (a, b))))) = (suc j, (omega arith, (omega arith, (t, (ap (λ l. x ∷ l) a, ap (λ l. x ∷ l) b)))))
-says_later xs r x i (Gap k) h p w (j, (e, (lt, (t, (a, b))))) = (suc j, (omega arith, (omega arith, (t, (ap (λ l. x ∷ l) a, ap (λ l. x ∷ l) b)))))
+says_later : {R : Type 0} (xs : List R) (r x : R) (i : ℕ) (q : Result ℕ ℕ) (h : Bool) (p w : List R) → Says xs r (i + 1) q h p w → Says (x ∷ xs) r i q h (x ∷ p) (x ∷ w)
+says_later xs r x i (Ok k) h p w (j, (e, (lt, (t, (a, b))))) = (suc j, (omega arith, (omega arith, (t, (ap (λ l. x ∷ l) a, ap (λ l. x ∷ l) b)))))
+says_later xs r x i (Err k) h p w (j, (e, (lt, (t, (a, b))))) = (suc j, (omega arith, (omega arith, (t, (ap (λ l. x ∷ l) a, ap (λ l. x ∷ l) b)))))
 
-says_by : {R : Type 0} (o : Ordering) (xs : List R) (r x : R) (i : ℕ) (q : Place) (h : Bool) (p w : List R) → Says xs r (i + 1) q h p w
-    → Says (x ∷ xs) r i (by3 o q (Found i) (Gap i)) (by3 o h true false) (by3 o (x ∷ p) (r ∷ xs) (r ∷ x ∷ xs)) (by3 o (x ∷ w) xs (x ∷ xs))
+says_by : {R : Type 0} (o : Ordering) (xs : List R) (r x : R) (i : ℕ) (q : Result ℕ ℕ) (h : Bool) (p w : List R) → Says xs r (i + 1) q h p w
+    → Says (x ∷ xs) r i (by3 o q (Ok i) (Err i)) (by3 o h true false) (by3 o (x ∷ p) (r ∷ xs) (r ∷ x ∷ xs)) (by3 o (x ∷ w) xs (x ∷ xs))
 says_by Less xs r x i q h p w s = says_later xs r x i q h p w s
 says_by Equal xs r x i q h p w s = (0, (omega arith, (omega arith, (refl, (refl, refl)))))
 says_by Greater xs r x i q h p w s = (0, (omega arith, (omega arith, (refl, (refl, refl)))))
@@ -55,44 +54,37 @@ module _ {R : Type 0} (cmp : R → R → Ordering) where
   says r [] i = (0, (omega arith, (omega arith, (refl, (refl, refl)))))
   says r (x ∷ xs) i = says_by (cmp x r) xs r x i (place_from cmp r (i + 1) xs) (holds cmp r xs) (put cmp r xs) (without cmp r xs) (says r xs (i + 1))
 
-  pub found_says : (r : R) (xs : List R) (k : ℕ) → place cmp r xs ≡ Found k → FoundAt cmp r xs k
+  pub found_says : (r : R) (xs : List R) (k : ℕ) → place cmp r xs ≡ Ok k → FoundAt cmp r xs k
   found_says r xs k e =
-      let (j, (s, (lt, (t, (a, b))))) = subst (λ (q : Place). Says xs r 0 q (holds cmp r xs) (put cmp r xs) (without cmp r xs)) e (says r xs 0) in
+      let (j, (s, (lt, (t, (a, b))))) = subst (λ (q : Result ℕ ℕ). Says xs r 0 q (holds cmp r xs) (put cmp r xs) (without cmp r xs)) e (says r xs 0) in
       let f : j ≡ k = omega arith in
       record { within = omega arith; held = t; putting = a ∙ ap (λ n. set xs n r) f; dropping = b ∙ ap (remove xs) f }
 
-  pub gap_says : (r : R) (xs : List R) (k : ℕ) → place cmp r xs ≡ Gap k → GapAt cmp r xs k
+  pub gap_says : (r : R) (xs : List R) (k : ℕ) → place cmp r xs ≡ Err k → GapAt cmp r xs k
   gap_says r xs k e =
-      let (j, (s, (le, (t, (a, b))))) = subst (λ (q : Place). Says xs r 0 q (holds cmp r xs) (put cmp r xs) (without cmp r xs)) e (says r xs 0) in
+      let (j, (s, (le, (t, (a, b))))) = subst (λ (q : Result ℕ ℕ). Says xs r 0 q (holds cmp r xs) (put cmp r xs) (without cmp r xs)) e (says r xs 0) in
       let f : j ≡ k = omega arith in
       record { within = omega arith; held = t; putting = a ∙ ap (λ n. insert xs n r) f; dropping = b }
 
-  pub rank_held : (r : R) (xs : List R) → holds cmp r xs ≡ true → (k : ℕ) × (place cmp r xs ≡ Found k)
+  pub rank_held : (r : R) (xs : List R) → holds cmp r xs ≡ true → (k : ℕ) × (place cmp r xs ≡ Ok k)
   rank_held r xs h =
       ⊎_elim
       (λ f. f)
-      (λ (g : (k : ℕ) × (place cmp r xs ≡ Gap k)). absurd (both_ways (holds cmp r xs) (gap_says r xs g.0 g.1).held h))
-      (cases_place (place cmp r xs))
-
-  pub gap_absent : (r : R) (xs : List R) → holds cmp r xs ≡ false → (k : ℕ) × (place cmp r xs ≡ Gap k)
-  gap_absent r xs h =
-      ⊎_elim
-      (λ (f : (k : ℕ) × (place cmp r xs ≡ Found k)). absurd (both_ways (holds cmp r xs) h (found_says r xs f.0 f.1).held))
-      (λ g. g)
+      (λ (g : (k : ℕ) × (place cmp r xs ≡ Err k)). absurd (both_ways (holds cmp r xs) (gap_says r xs g.0 g.1).held h))
       (cases_place (place cmp r xs))
 
   -- records that compare alike with all others have one place
   place_from_alike : (q r : R) → ((y : R) → cmp y q ≡ cmp y r) → (i : ℕ) (xs : List R) → place_from cmp q i xs ≡ place_from cmp r i xs
   place_from_alike q r h i [] = refl
   place_from_alike q r h i (x ∷ xs) =
-      ap (λ c. by3 c (place_from cmp q (i + 1) xs) (Found i) (Gap i)) (h x) ∙ ap (λ t. by3 (cmp x r) t (Found i) (Gap i)) (place_from_alike q r h (i + 1) xs)
+      ap (λ c. by3 c (place_from cmp q (i + 1) xs) (Ok i) (Err i)) (h x) ∙ ap (λ t. by3 (cmp x r) t (Ok i) (Err i)) (place_from_alike q r h (i + 1) xs)
 
   pub place-alike : (q r : R) → ((y : R) → cmp y q ≡ cmp y r) → (xs : List R) → place cmp q xs ≡ place cmp r xs
   place-alike q r h xs = place_from_alike q r h 0 xs
 
   -- ---- lengths, and what stands at each rank then
 
-  module _ (r : R) (xs : List R) (k : ℕ) (at : place cmp r xs ≡ Found k) where
+  module _ (r : R) (xs : List R) (k : ℕ) (at : place cmp r xs ≡ Ok k) where
     pub length_replaced : length (put cmp r xs) ≡ length xs
     length_replaced = ap length (found_says r xs k at).putting ∙ length-set xs k r
 
@@ -118,7 +110,7 @@ module _ {R : Type 0} (cmp : R → R → Ordering) where
         (λ ge. get_or-remove_above xs k d i ge f.within ∙ ap (λ n. get_or xs n d) (sym (cond-false (ltb i k) i (i + 1) (le-ltb i k ge))))
         (cases_lt i k)
 
-  module _ (r : R) (xs : List R) (k : ℕ) (at : place cmp r xs ≡ Gap k) where
+  module _ (r : R) (xs : List R) (k : ℕ) (at : place cmp r xs ≡ Err k) where
     pub length_added : length (put cmp r xs) ≡ length xs + 1
     length_added = let g = gap_says r xs k at in ap length g.putting ∙ length-insert xs k r g.within
 
@@ -149,26 +141,26 @@ not_equal Less n = refl
 not_equal Equal n = absurd (n refl)
 not_equal Greater n = refl
 
-pub found_once : (i k : ℕ) → Found i ≡ Found k → i ≡ k
+pub found_once : (i k : ℕ) → ◌≡◌ {A = Result ℕ ℕ} (Ok i) (Ok k) → i ≡ k
 found_once i k e = cc
 
-module _ {R : Type 0} (cmp : R → R → Ordering) (o : Order cmp) where
+module _ {R : Type 0} (cmp : R → R → Ordering) (o : IsTotalOrder cmp) where
   module _ (xs : List R) (rising : Rising cmp xs) where
     -- a record of the key of what stands at rank k is found there
-    pub placed_at : (r : R) (k : ℕ) (d : R) → k < length xs → cmp (get_or xs k d) r ≡ Equal → place cmp r xs ≡ Found k
-    placed_at r k d lt e = found_at cmp o r xs k 0 d rising lt e ∙ ap Found (omega arith)
+    pub placed_at : (r : R) (k : ℕ) (d : R) → k < length xs → cmp (get_or xs k d) r ≡ Equal → place cmp r xs ≡ Ok k
+    placed_at r k d lt e = found_at cmp o r xs k 0 d rising lt e ∙ ap Ok (omega arith)
 
-    pub placed_own : (k : ℕ) (d : R) → k < length xs → place cmp (get_or xs k d) xs ≡ Found k
-    placed_own k d lt = placed_at (get_or xs k d) k d lt (own_key cmp o (get_or xs k d))
+    pub placed_own : (k : ℕ) (d : R) → k < length xs → place cmp (get_or xs k d) xs ≡ Ok k
+    placed_own k d lt = placed_at (get_or xs k d) k d lt (tied_itself o (get_or xs k d))
 
     -- what is found has the key
-    pub found-key : (r : R) (k : ℕ) (d : R) → place cmp r xs ≡ Found k → cmp (get_or xs k d) r ≡ Equal
+    pub found-key : (r : R) (k : ℕ) (d : R) → place cmp r xs ≡ Ok k → cmp (get_or xs k d) r ≡ Equal
     found-key r k d e =
         let (lt, q) = subst (Tells cmp r xs) e (search_law cmp o r xs rising).1 in
         ap (λ x. cmp x r) (get_or_default xs k d r lt) ∙ q
 
     -- a rank has the key of what is found at rank k only if it is k
-    pub key-at : (r : R) (k i : ℕ) (d : R) → place cmp r xs ≡ Found k → i < length xs → is_equal (cmp (get_or xs i d) r) ≡ eqb i k
+    pub key-at : (r : R) (k i : ℕ) (d : R) → place cmp r xs ≡ Ok k → i < length xs → is_equal (cmp (get_or xs i d) r) ≡ eqb i k
     key-at r k i d e lt =
         ⊎_elim
         (λ (s : i ≡ k). ap is_equal (ap (λ n. cmp (get_or xs n d) r) s ∙ found-key r k d e) ∙ sym (eq-eqb i k s))
@@ -182,6 +174,6 @@ module _ {R : Type 0} (cmp : R → R → Ordering) (o : Order cmp) where
         ⊎_elim
         (λ (h : holds cmp p (without cmp r xs) ≡ true).
         let (x, m, q) = holds_among cmp o p (without cmp r xs) law.rises h in
-        absurd ((law.only x m).1 (alike_right cmp o x p r e ∙ q)))
+        absurd ((law.only x m).1 (sym (alike_right o p r x e) ∙ q)))
         (λ h. h)
         (cases_Bool (holds cmp p (without cmp r xs)))

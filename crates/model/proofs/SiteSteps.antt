@@ -1,4 +1,5 @@
 -- A site put and dropped, on the tables as in the rules. Assumes nothing.
+use Rattle.std.specs.Result.{result_unwrap_or}
 use Rattle.model.proofs.Keeping.{site_drop_kept, site_put_kept}
 use Rattle.model.proofs.Laying.{shown_is, site-known}
 use Rattle.model.proofs.Steps.{demand_no, demand_yes, does_refused, stands_as}
@@ -19,7 +20,7 @@ use Rattle.std.proofs.lemmas.Bool.{cond_both, not_from_true}
 use Rattle.std.proofs.Common.{◌≡◌, ◌≤◌, true, false, not, List, length, is_ok, Ok, Err, sym, refl, ap, ◌∙◌, ap₂}
 use Rattle.tables.specs.Laws.{put_rule}
 use Rattle.tables.specs.Lists.{holds, put, without}
-use Rattle.tables.specs.Rows.{plain, value_or}
+use Rattle.tables.specs.Rows.{plain}
 
 -- other sites that fit and are kept: register and tables that lay them out stand for them
 sites_stand : (x : State) (s : Solution) (ys : List Site) → Stands x s → length ys ≤ x.places.sites → Kept (with_sites s ys) → Stands (state_of x.places (with_sites s ys)) (with_sites s ys)
@@ -42,7 +43,7 @@ site_put_does r v x = record {
       let ys = put_on site_order r n s.sites in
       let rows = put-laid site_order site_order_lem blank_site r n s.sites st.fits.sites st.kept.ordered.sites in
       let count = put_count site_order site_order_lem blank_site r n s.sites st.fits.sites st.kept.ordered.sites in
-      stands_as (site_put r x) (state_of x.places (with_sites s ys)) (value_or (put_site x.places s r) s) (with_sites s ys)
+      stands_as (site_put r x) (state_of x.places (with_sites s ys)) (result_unwrap_or (put_site x.places s r) s) (with_sites s ys)
       (ap (site_put r) st.laid_out ∙ ap₂ (site_rows (state_of x.places s)) rows count)
       (put_if site_order r n (with_sites s) s.sites)
       (sites_stand x s ys st (put-fits site_order r n s.sites st.fits.sites)
@@ -88,8 +89,8 @@ site_drop_does r x free there = record {
       let none : site_needed s r.key ≡ false = sym (needed_in r x s st) ∙ free in
       let rows = drop-laid site_order site_order_lem blank_site r n s.sites st.fits.sites st.kept.ordered.sites in
       let count = drop-count site_order site_order_lem blank_site r n s.sites st.fits.sites st.kept.ordered.sites in
-      stands_as (site_dropped r x) (state_of x.places (with_sites s ys)) (value_or (drop_site s r) s) (with_sites s ys)
+      stands_as (site_dropped r x) (state_of x.places (with_sites s ys)) (result_unwrap_or (drop_site s r) s) (with_sites s ys)
       (ap (site_dropped r) st.laid_out ∙ ap₂ (site_rows (state_of x.places s)) rows count)
-      (ap (λ t. value_or t s) (free-site r s none) ∙ drop_if site_order r (with_sites s) s.sites)
+      (ap (λ t. result_unwrap_or t s) (free-site r s none) ∙ drop_if site_order r (with_sites s) s.sites)
       (sites_stand x s ys st (drop-fits site_order r n s.sites st.fits.sites) (site_drop_kept r s none st.kept));
 }

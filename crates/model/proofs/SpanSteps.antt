@@ -1,4 +1,5 @@
 -- A span put and dropped, on the tables as in the rules. Assumes nothing.
+use Rattle.std.specs.Result.{result_unwrap_or}
 use Rattle.std.proofs.Common.{◌≡◌, ◌≤◌, true, false, not, List, length, is_ok, Ok, Err, sym, refl, ap, ◌∙◌, ap₂}
 use Rattle.model.proofs.Keeping.{span_drop_kept, span_put_kept}
 use Rattle.model.proofs.Laying.{known-laid, shown_is, site-known}
@@ -19,7 +20,7 @@ use Rattle.refusals.specs.declared.Fault.TheVariants.{NeedMissing, RecordAbsent,
 use Rattle.std.proofs.lemmas.Bool.{cond_both, not_from_true}
 use Rattle.tables.specs.Laws.{put_rule}
 use Rattle.tables.specs.Lists.{holds, put, without}
-use Rattle.tables.specs.Rows.{known, plain, value_or}
+use Rattle.tables.specs.Rows.{known, plain}
 
 -- other spans that fit and are kept: register and tables that lay them out stand for them
 spans_stand : (x : State) (s : Solution) (ys : List Span) → Stands x s → length ys ≤ x.places.spans → Kept (with_spans s ys) → Stands (state_of x.places (with_spans s ys)) (with_spans s ys)
@@ -53,9 +54,9 @@ span_put_does r v x e = record {
       let there : has_site s r.key.at.site ≡ true = sym (site_there r x s st) ∙ e in
       let rows = put-laid span_order span_order_lem blank_span r n s.spans st.fits.spans st.kept.ordered.spans in
       let count = put_count span_order span_order_lem blank_span r n s.spans st.fits.spans st.kept.ordered.spans in
-      stands_as (span_put r x) (state_of x.places (with_spans s ys)) (value_or (put_span x.places s r) s) (with_spans s ys)
+      stands_as (span_put r x) (state_of x.places (with_spans s ys)) (result_unwrap_or (put_span x.places s r) s) (with_spans s ys)
       (ap (span_put r) st.laid_out ∙ ap₂ (span_rows (state_of x.places s)) rows count)
-      (ap (λ t. value_or t s) (demand_yes NeedMissing (has_site s r.key.at.site) _ there) ∙ put_if span_order r n (with_spans s) s.spans)
+      (ap (λ t. result_unwrap_or t s) (demand_yes NeedMissing (has_site s r.key.at.site) _ there) ∙ put_if span_order r n (with_spans s) s.spans)
       (spans_stand x s ys st (put-fits span_order r n s.spans st.fits.spans)
       (cond_both (is_ok (put_rule span_order r n s.spans)) (put span_order r s.spans) s.spans (λ zs. Kept (with_spans s zs)) (λ _. span_put_kept r v s there st.kept) (λ _. st.kept)));
 }
@@ -101,8 +102,8 @@ span_drop_does r x free there = record {
       let none : span_needed s r ≡ false = sym (needed_in r x s st) ∙ free in
       let rows = drop-laid span_order span_order_lem blank_span r n s.spans st.fits.spans st.kept.ordered.spans in
       let count = drop-count span_order span_order_lem blank_span r n s.spans st.fits.spans st.kept.ordered.spans in
-      stands_as (span_dropped r x) (state_of x.places (with_spans s ys)) (value_or (drop_span s r) s) (with_spans s ys)
+      stands_as (span_dropped r x) (state_of x.places (with_spans s ys)) (result_unwrap_or (drop_span s r) s) (with_spans s ys)
       (ap (span_dropped r) st.laid_out ∙ ap₂ (span_rows (state_of x.places s)) rows count)
-      (ap (λ t. value_or t s) (free_span r s none) ∙ drop_if span_order r (with_spans s) s.spans)
+      (ap (λ t. result_unwrap_or t s) (free_span r s none) ∙ drop_if span_order r (with_spans s) s.spans)
       (spans_stand x s ys st (drop-fits span_order r n s.spans st.fits.spans) (span_drop_kept r s none st.kept));
 }

@@ -1,4 +1,5 @@
 -- Steps of a call put together: what a read before a rule changes, and what a call promises by its rule. Assumes nothing.
+use Rattle.std.specs.Result.{result_unwrap_or}
 use Rattle.model.proofs.Laying.{stands_own}
 use Rattle.model.specs.Edits.{Call, outcome, unplaced}
 use Rattle.model.specs.Handed.{demand}
@@ -10,7 +11,7 @@ use Rattle.refusals.specs.declared.Fault.{Fault}
 use Rattle.refusals.specs.declared.Fault.TheVariants.{TableLengths}
 use Rattle.std.proofs.lemmas.Bool.{both_ways}
 use Rattle.std.proofs.Common.{◌≡◌, Bool, true, false, is_ok, Ok, Err, Result, sym, refl, ap, ◌∙◌, subst}
-use Rattle.tables.specs.Rows.{plain, value_or}
+use Rattle.tables.specs.Rows.{plain}
 
 -- ---- steps by a rule
 
@@ -19,7 +20,7 @@ pub does_refused : (rule : Counts → Solution → Result Solution Fault) (x : S
 does_refused rule x f h = record {
   places = refl;
   answers = λ s st. ap plain (sym (h s st));
-  leaves = λ s st. subst (λ r. Stands x (value_or r s)) (sym (h s st)) st;
+  leaves = λ s st. subst (λ r. Stands x (result_unwrap_or r s)) (sym (h s st)) st;
 }
 
 -- the rule accepts and gives u s
@@ -28,7 +29,7 @@ pub does_accepted : (rule : Counts → Solution → Result Solution Fault) (u : 
 does_accepted rule u x y p h k = record {
   places = p;
   answers = λ s st. ap plain (sym (h s st));
-  leaves = λ s st. subst (λ r. Stands y (value_or r s)) (sym (h s st)) (k s st);
+  leaves = λ s st. subst (λ r. Stands y (result_unwrap_or r s)) (sym (h s st)) (k s st);
 }
 
 -- a test before the rest of a rule
@@ -44,13 +45,8 @@ pub does_as : (rule other : Counts → Solution → Result Solution Fault) (x : 
 does_as rule other x a y h d = record {
   places = d.places;
   answers = λ s st. d.answers s st ∙ ap plain (sym (h s st));
-  leaves = λ s st. subst (λ r. Stands y (value_or r s)) (sym (h s st)) (d.leaves s st);
+  leaves = λ s st. subst (λ r. Stands y (result_unwrap_or r s)) (sym (h s st)) (d.leaves s st);
 }
-
--- a read before the rule fails
-pub does_then_err : {A : Type 0} (r : Result A Fault) (g : Counts → Solution → A → Result Solution Fault) (f : Fault) (x : State) → r ≡ Err f
-    → Does (λ P s. and_then r (g P s)) x (Err f) x
-does_then_err r g f x e = does_refused (λ P s. and_then r (g P s)) x f (λ s st. ap (λ t. and_then t (g x.places s)) e)
 
 -- a read before the rule gives what the rule goes on with
 pub does_then_ok : {A : Type 0} (r : Result A Fault) (g : Counts → Solution → A → Result Solution Fault) (a : A) (x : State) (b : Result (Unit {0}) Fault) (y : State) → r ≡ Ok a
@@ -60,7 +56,7 @@ does_then_ok r g a x b y e d =
 
 -- ---- a refusal changes nothing
 
-stays_by : (r : Result Solution Fault) (s : Solution) → is_ok (plain r) ≡ false → value_or r s ≡ s
+stays_by : (r : Result Solution Fault) (s : Solution) → is_ok (plain r) ≡ false → result_unwrap_or r s ≡ s
 stays_by (Ok t) s e = absurd (both_ways true e refl)
 stays_by (Err f) s e = refl
 

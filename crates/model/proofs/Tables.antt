@@ -1,4 +1,6 @@
 -- Ordered lists and the rows they are laid out in: what an edit keeps, and how many records there are then. Assumes nothing.
+use Rattle.std.specs.Cmp.{IsTotalOrder}
+use Rattle.std.specs.Result.{result_unwrap_or}
 use Rattle.std.proofs.Common.{◌≡◌, ℕ, suc, ◌+◌, ◌-◌, ◌<◌, ◌≤◌, Bool, true, false, cond, ◌||◌, ltb, ◌⊎◌, List, [], ◌∷◌, length, is_ok, Ok, Err, Result, Ordering, Less, Equal, Greater, sym, refl, ap, ◌∙◌, inl, inr, ⊎_elim, arith}
 use Rattle.codes.specs.Order.{is_equal}
 use Rattle.model.proofs.Matched.{first-before}
@@ -10,12 +12,13 @@ use Rattle.refusals.specs.declared.Fault.{Fault}
 use Rattle.refusals.specs.declared.Fault.TheVariants.{RecordAbsent, TableFull}
 use Rattle.std.proofs.lemmas.Bool.{both_ways, cases_Bool, ltb-true, or_cases, or_left, or_right}
 use Rattle.tables.proofs.Edits.{drop_law, put_law, rises-put, rises-without}
-use Rattle.tables.proofs.Orders.{alike_right, greater_not_equal, less_not_equal}
+use Rattle.std.proofs.lemmas.Cmp.{alike_right}
+use Rattle.tables.proofs.Orders.{greater_not_equal, less_not_equal}
 use Rattle.tables.proofs.Standing.{laid_law}
-use Rattle.tables.specs.Keys.{Order, Rising, by3}
+use Rattle.tables.specs.Keys.{Rising, by3}
 use Rattle.tables.specs.Laws.{Among, put_rule}
 use Rattle.tables.specs.Lists.{holds, laid, put, without}
-use Rattle.tables.specs.Rows.{drop_answer, drop_rows, plain, put_answer, put_rows, value_or}
+use Rattle.tables.specs.Rows.{drop_answer, drop_rows, plain, put_answer, put_rows}
 
 -- ---- answers of a comparison
 
@@ -56,7 +59,7 @@ without-alike cmp q r h (x ∷ xs) =
 
 -- ---- keys that rise
 
-module _ {R : Type 0} (cmp : R → R → Ordering) (o : Order cmp) where
+module _ {R : Type 0} (cmp : R → R → Ordering) (o : IsTotalOrder cmp) where
   -- a test that tells keys only holds of one still, after a put
   pub any_put : (f : R → Bool) (r : R) → ((y : R) → cmp y r ≡ Equal → f y ≡ f r) → (xs : List R) → Rising cmp xs → any_of f xs ≡ true → any_of f (put cmp r xs) ≡ true
   any_put f r c xs up h =
@@ -71,7 +74,7 @@ module _ {R : Type 0} (cmp : R → R → Ordering) (o : Order cmp) where
   past_greater : (q x : R) (xs : List R) → Rising cmp (x ∷ xs) → cmp x q ≡ Greater → any_of (λ y. is_equal (cmp y q)) xs ≡ true → ⊥
   past_greater q x xs up g h =
       let (y, m, e) = any_among (λ y. is_equal (cmp y q)) xs h in
-      let same : cmp x q ≡ cmp x y = alike_right cmp o x y q (is_equal_lem (cmp y q) e) in
+      let same : cmp x q ≡ cmp x y = sym (alike_right o y q x (is_equal_lem (cmp y q) e)) in
       let less : cmp x q ≡ Less = same ∙ first-before cmp o x xs up y m in
       let z : ◌≡◌ {A = ℕ} 0 1 = cc in
       omega arith
@@ -99,7 +102,7 @@ module _ {R : Type 0} (cmp : R → R → Ordering) (o : Order cmp) where
   pub holds-put : (q r : R) (xs : List R) → Rising cmp xs → holds cmp q xs ≡ true → holds cmp q (put cmp r xs) ≡ true
   holds-put q r xs up h =
       holds_any q (put cmp r xs) (rises-put cmp o r xs up)
-      ∙ any_put (λ y. is_equal (cmp y q)) r (λ y e. ap is_equal (o.alike y r q e)) xs up (sym (holds_any q xs up) ∙ h)
+      ∙ any_put (λ y. is_equal (cmp y q)) r (λ y e. ap is_equal (o.congr y r q e)) xs up (sym (holds_any q xs up) ∙ h)
 
   -- the record that was put is there
   pub holds-new : (q r : R) (xs : List R) → Rising cmp xs → cmp r q ≡ Equal → holds cmp q (put cmp r xs) ≡ true
@@ -109,7 +112,7 @@ module _ {R : Type 0} (cmp : R → R → Ordering) (o : Order cmp) where
   pub holds-without : (q r : R) (xs : List R) → Rising cmp xs → (cmp r q ≡ Equal → ⊥) → holds cmp q xs ≡ true → holds cmp q (without cmp r xs) ≡ true
   holds-without q r xs up n h =
       let (y, m, e) = holds_among q xs up h in
-      among_holds q (without cmp r xs) y (rises-without cmp o r xs up) ((drop_law cmp o r xs up).kept y m (λ k. n (sym (o.alike y r q k) ∙ e))) e
+      among_holds q (without cmp r xs) y (rises-without cmp o r xs up) ((drop_law cmp o r xs up).kept y m (λ k. n (sym (o.congr y r q k) ∙ e))) e
 
 -- ---- how many records there are
 
@@ -163,7 +166,7 @@ reply_by false true u = refl
 reply_by false false u = refl
 
 count_by : {R : Type 0} (h b : Bool) (p xs : List R) → length p ≡ cond h (length xs) (suc (length xs))
-    → value_or (put_by h b (length xs)) (length xs) ≡ length (cond (is_ok (put_by h b (length xs))) p xs)
+    → result_unwrap_or (put_by h b (length xs)) (length xs) ≡ length (cond (is_ok (put_by h b (length xs))) p xs)
 count_by true b p xs e = sym e
 count_by false true p xs e = omega arith
 count_by false false p xs e = refl
@@ -175,13 +178,13 @@ fits_by false true n p xs e le f = omega (arith, f refl)
 fits_by false false n p xs e le f = le
 
 if_by : {R S : Type 0} (h b : Bool) (u : ℕ) (f : List R → S) (p xs : List R)
-    → value_or (and_then (demand TableFull (h || b)) (λ _. Ok (f p))) (f xs) ≡ f (cond (is_ok (put_by h b u)) p xs)
+    → result_unwrap_or (and_then (demand TableFull (h || b)) (λ _. Ok (f p))) (f xs) ≡ f (cond (is_ok (put_by h b u)) p xs)
 if_by true b u f p xs = refl
 if_by false true u f p xs = refl
 if_by false false u f p xs = refl
 
 pub put_if : {R S : Type 0} (cmp : R → R → Ordering) (r : R) (n : ℕ) (f : List R → S) (xs : List R)
-    → value_or (and_then (room cmp r n xs) (λ _. Ok (f (put cmp r xs)))) (f xs) ≡ f (put_on cmp r n xs)
+    → result_unwrap_or (and_then (room cmp r n xs) (λ _. Ok (f (put cmp r xs)))) (f xs) ≡ f (put_on cmp r n xs)
 put_if cmp r n f xs = if_by (holds cmp r xs) (ltb (length xs) n) (length xs) f (put cmp r xs) xs
 
 pub put-fits : {R : Type 0} (cmp : R → R → Ordering) (r : R) (n : ℕ) (xs : List R) → length xs ≤ n → length (put_on cmp r n xs) ≤ n
@@ -190,10 +193,10 @@ put-fits cmp r n xs le = fits_by (holds cmp r xs) (ltb (length xs) n) n (put cmp
 -- ---- a drop on the rows
 
 pub drop_if : {R S : Type 0} (cmp : R → R → Ordering) (r : R) (f : List R → S) (xs : List R)
-    → value_or (and_then (demand RecordAbsent (holds cmp r xs)) (λ _. Ok (f (without cmp r xs)))) (f xs) ≡ f (without cmp r xs)
+    → result_unwrap_or (and_then (demand RecordAbsent (holds cmp r xs)) (λ _. Ok (f (without cmp r xs)))) (f xs) ≡ f (without cmp r xs)
 drop_if cmp r f xs = if (holds cmp r xs) (λ e. sym (without_absent cmp r xs e))
   where
-    if : (h : Bool) → (h ≡ false → xs ≡ without cmp r xs) → value_or (and_then (demand RecordAbsent h) (λ _. Ok (f (without cmp r xs)))) (f xs) ≡ f (without cmp r xs)
+    if : (h : Bool) → (h ≡ false → xs ≡ without cmp r xs) → result_unwrap_or (and_then (demand RecordAbsent h) (λ _. Ok (f (without cmp r xs)))) (f xs) ≡ f (without cmp r xs)
     if true g = refl
     if false g = ap f (g refl)
 
@@ -205,7 +208,7 @@ drop_reply_by : (h : Bool) (u : ℕ) → plain {E = Fault} (cond h (Ok u) (Err R
 drop_reply_by true u = refl
 drop_reply_by false u = refl
 
-drop_count_by : (h : Bool) (u v : ℕ) → (h ≡ true → suc v ≡ u) → (h ≡ false → v ≡ u) → value_or {E = Fault} (cond h (Ok (u - 1)) (Err RecordAbsent)) u ≡ v
+drop_count_by : (h : Bool) (u v : ℕ) → (h ≡ true → suc v ≡ u) → (h ≡ false → v ≡ u) → result_unwrap_or {E = Fault} (cond h (Ok (u - 1)) (Err RecordAbsent)) u ≡ v
 drop_count_by true u v f g = omega (arith, f refl)
 drop_count_by false u v f g = sym (g refl)
 
@@ -216,13 +219,13 @@ pub plain_then : {S : Type 0} (d : Result (Unit {0}) Fault) (t : S) → plain (a
 plain_then (Ok u) t = refl
 plain_then (Err e) t = refl
 
-module _ {R : Type 0} (cmp : R → R → Ordering) (o : Order cmp) (b r : R) (n : ℕ) (xs : List R) (le : length xs ≤ n) (up : Rising cmp xs) where
+module _ {R : Type 0} (cmp : R → R → Ordering) (o : IsTotalOrder cmp) (b r : R) (n : ℕ) (xs : List R) (le : length xs ≤ n) (up : Rising cmp xs) where
   pub put-reply : plain (put_answer cmp r (length xs) (laid b n xs)) ≡ room cmp r n xs
   put-reply = ap plain (laid_law cmp b o n r xs le up).put-answer ∙ reply_by (holds cmp r xs) (ltb (length xs) n) (length xs)
 
-  pub put_count : value_or (put_answer cmp r (length xs) (laid b n xs)) (length xs) ≡ length (put_on cmp r n xs)
+  pub put_count : result_unwrap_or (put_answer cmp r (length xs) (laid b n xs)) (length xs) ≡ length (put_on cmp r n xs)
   put_count =
-      ap (λ (a : Result ℕ Fault). value_or a (length xs)) (laid_law cmp b o n r xs le up).put-answer
+      ap (λ (a : Result ℕ Fault). result_unwrap_or a (length xs)) (laid_law cmp b o n r xs le up).put-answer
       ∙ count_by (holds cmp r xs) (ltb (length xs) n) (put cmp r xs) xs (length-put cmp r xs)
 
   pub put-laid : put_rows cmp r (length xs) (laid b n xs) ≡ laid b n (put_on cmp r n xs)
@@ -231,9 +234,9 @@ module _ {R : Type 0} (cmp : R → R → Ordering) (o : Order cmp) (b r : R) (n 
   pub drop-reply : plain (drop_answer cmp r (length xs) (laid b n xs)) ≡ demand RecordAbsent (holds cmp r xs)
   drop-reply = ap plain (laid_law cmp b o n r xs le up).drop-answer ∙ drop_reply_by (holds cmp r xs) (length xs - 1)
 
-  pub drop-count : value_or (drop_answer cmp r (length xs) (laid b n xs)) (length xs) ≡ length (without cmp r xs)
+  pub drop-count : result_unwrap_or (drop_answer cmp r (length xs) (laid b n xs)) (length xs) ≡ length (without cmp r xs)
   drop-count =
-      ap (λ (a : Result ℕ Fault). value_or a (length xs)) (laid_law cmp b o n r xs le up).drop-answer
+      ap (λ (a : Result ℕ Fault). result_unwrap_or a (length xs)) (laid_law cmp b o n r xs le up).drop-answer
       ∙ drop_count_by (holds cmp r xs) (length xs) (length (without cmp r xs)) (without-held cmp r xs) (λ e. ap length (without_absent cmp r xs e))
 
   pub drop-laid : drop_rows cmp b r (length xs) (laid b n xs) ≡ laid b n (without cmp r xs)

@@ -1,4 +1,5 @@
 -- A record that was absent, put and dropped again: the solution is what it was. Assumes nothing.
+use Rattle.std.specs.Cmp.{IsTotalOrder}
 use Rattle.std.proofs.Common.{◌≡◌, ℕ, Bool, true, false, not, ◌&&◌, ◌||◌, List, Ok, Err, Result, Ordering, Equal, sym, refl, ap, ◌∙◌, ⊎_elim, arith}
 use Rattle.codes.specs.Order.{is_equal}
 use Rattle.model.proofs.SiteSteps.{free-site}
@@ -27,8 +28,8 @@ use Rattle.refusals.specs.declared.Fault.{Fault}
 use Rattle.refusals.specs.declared.Fault.TheVariants.{NeedMissing, RecordAbsent, StillNeeded}
 use Rattle.std.proofs.lemmas.Bool.{and_from, and_left, and_parts, and_right, both_ways, cases_Bool, not_from_false, not_from_true, or_cases, or_from}
 use Rattle.tables.proofs.Edits.{back_law, put_law}
-use Rattle.tables.proofs.Orders.{own_key}
-use Rattle.tables.specs.Keys.{Order, Rising}
+use Rattle.std.proofs.lemmas.Cmp.{tied_itself}
+use Rattle.tables.specs.Keys.{Rising}
 use Rattle.tables.specs.Laws.{Among}
 use Rattle.tables.specs.Lists.{holds, put, without}
 
@@ -68,9 +69,9 @@ absent_by_one false t e = refl
 -- ---- the list
 
 -- a record q of r's key that the list lacks: it is there after r is put, and to drop it leaves the list as it was
-module _ {R : Type 0} (cmp : R → R → Ordering) (o : Order cmp) (q r : R) (alike : (y : R) → cmp y q ≡ cmp y r) (xs : List R) (up : Rising cmp xs) (none : holds cmp q xs ≡ false) where
+module _ {R : Type 0} (cmp : R → R → Ordering) (o : IsTotalOrder cmp) (q r : R) (alike : (y : R) → cmp y q ≡ cmp y r) (xs : List R) (up : Rising cmp xs) (none : holds cmp q xs ≡ false) where
   pub put_there : holds cmp q (put cmp r xs) ≡ true
-  put_there = holds-new cmp o q r xs up (alike r ∙ own_key cmp o r)
+  put_there = holds-new cmp o q r xs up (alike r ∙ tied_itself o r)
 
   pub put_undone : without cmp q (put cmp r xs) ≡ xs
   put_undone = without-alike cmp q r alike (put cmp r xs) ∙ back_law cmp o r xs up (sym (holds-alike cmp q r alike xs) ∙ none)

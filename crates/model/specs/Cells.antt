@@ -1,4 +1,5 @@
 -- The cells of a solution by the keys of its estimates.
+use Rattle.std.specs.Result.{result_unwrap_or}
 use Rattle.std.specs.Prelude.{ℕ, Bool, cond, ◌&&◌, ◌||◌, List, length, slice_index_or}
 use Rattle.codes.specs.Order.{is_equal}
 use Rattle.decimals.specs.Number.{zero_number}
@@ -7,12 +8,11 @@ use Rattle.model.specs.Solutions.{Solution, cell_of}
 use Rattle.records.specs.Parameters.{blank_parameter, parameter_order}
 use Rattle.records.specs.declared.parameters.Parameter.{Parameter}
 use Rattle.tables.specs.Lists.{holds, place}
-use Rattle.tables.specs.Rows.{found_or}
 use Rattle.triangle.specs.Triangle.{rows_of}
 
 -- the rank of the estimate of p's key, from 0
 abbrev pub rank_among : List Parameter → Parameter → ℕ
-rank_among es p = found_or (place parameter_order p es) 0
+rank_among es p = result_unwrap_or (place parameter_order p es) 0
 
 -- the cell of the estimates that have the keys of p and q; zero where one of them is absent
 unfoldable pub look : Solution → Parameter → Parameter → Number

@@ -1,4 +1,5 @@
 -- What each edit makes of a solution, or the fault for which it is refused: the rules, by solutions and the bytes handed in.
+use Rattle.std.specs.Result.{result_unwrap_or}
 use Rattle.std.specs.Prelude.{ℕ, cond, not, ◌&&◌, ◌||◌, List, length, Some, Ok, Err, Option, Result, nat_lt}
 use Rattle.std.specs.declared.cmp.Ordering.{Ordering}
 use Rattle.codes.specs.declared.letters.MatrixKind.{MatrixKind}
@@ -23,7 +24,7 @@ use Rattle.refusals.specs.declared.Fault.{Fault}
 use Rattle.refusals.specs.declared.Fault.TheVariants.{NeedMissing, RecordAbsent, StillNeeded, TableFull}
 use Rattle.refusals.specs.declared.Refusal.{Refusal}
 use Rattle.tables.specs.Lists.{holds, put, without}
-use Rattle.tables.specs.Rows.{plain, value_or}
+use Rattle.tables.specs.Rows.{plain}
 
 -- ---- a solution with one of its parts changed
 
@@ -168,4 +169,4 @@ reply P s c = unplaced (plain (outcome P s c))
 
 -- what is held then
 abbrev pub after : Counts → Solution → Call → Solution
-after P s c = value_or (outcome P s c) s
+after P s c = result_unwrap_or (outcome P s c) s

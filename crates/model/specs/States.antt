@@ -1,4 +1,5 @@
 -- What a register remembers and its tables hold, and when they stand for a solution.
+use Rattle.std.specs.Result.{result_unwrap_or}
 use Rattle.std.specs.Prelude.{◌≡◌, ℕ, ◌≤◌, Bool, true, false, ◌&&◌, List, [], length, replicate, is_ok, Some, None, Err, Option, Result, ◌==◌, nat_le}
 use Rattle.decimals.specs.Number.{zero_number}
 use Rattle.decimals.specs.Write.{Canonical}
@@ -20,7 +21,7 @@ use Rattle.refusals.specs.declared.Fault.TheVariants.{TableLengths}
 use Rattle.refusals.specs.declared.Refusal.{Refusal}
 use Rattle.tables.specs.Laws.{Among}
 use Rattle.tables.specs.Lists.{laid}
-use Rattle.tables.specs.Rows.{plain, value_or}
+use Rattle.tables.specs.Rows.{plain}
 use Rattle.triangle.specs.Triangle.{tri}
 
 -- A register and the tables it is handed: the lengths it was made over, how many places are used, the head; and the tables whole.
@@ -135,7 +136,7 @@ pub record Stands (x : State) (s : Solution) : Type 0 where
 pub record Does (rule : Counts → Solution → Result Solution Fault) (x : State) (a : Result (Unit {0}) Fault) (y : State) : Type 0 where
   pub places : y.places ≡ x.places
   pub answers : (s : Solution) → Stands x s → a ≡ plain (rule x.places s)
-  pub leaves : (s : Solution) → Stands x s → Stands y (value_or (rule x.places s) s)
+  pub leaves : (s : Solution) → Stands x s → Stands y (result_unwrap_or (rule x.places s) s)
 
 pub record Obeys (c : Call) (x : State) (a : Result (Unit {0}) Refusal) (y : State) : Type 0 where
   -- it forgets no length that it was made over

@@ -1,4 +1,5 @@
 -- What a step of a call does to a register and its tables, of any rows: the counterparts on tables of the rules on solutions.
+use Rattle.std.specs.Result.{result_unwrap_or}
 use Rattle.std.specs.Prelude.{ℕ, Bool, cond, not, ◌&&◌, ◌||◌, List, length, take, Ok, Err, Option, Result, slice_set}
 use Rattle.decimals.specs.Number.{zero_number}
 use Rattle.decimals.specs.declared.number.Number.{Number}
@@ -15,9 +16,7 @@ use Rattle.records.specs.declared.sites.Site.{Site}
 use Rattle.records.specs.declared.spans.Span.{Span}
 use Rattle.refusals.specs.declared.Fault.{Fault}
 use Rattle.refusals.specs.declared.Fault.TheVariants.{RecordAbsent, TableFull, WrongCell}
-use Rattle.tables.specs.Rows.{drop_answer, drop_rows, known, put_answer, put_rows, sought, used_rows, value_or}
-use Rattle.tables.specs.declared.table.Place.{Place}
-use Rattle.tables.specs.declared.table.Place.TheVariants.{Found, Gap}
+use Rattle.tables.specs.Rows.{drop_answer, drop_rows, known, put_answer, put_rows, sought, used_rows}
 use Rattle.triangle.specs.Triangle.{cell, closable, closed_in, openable, opened_in, rows_of, seen, spot, tri}
 
 -- ---- a state with one of its parts changed
@@ -123,12 +122,12 @@ abbrev pub served_in : State → Parameter → Bool
 served_in x p = not (stationed p) || (site_known x p.key.at.site && has_span (shown x) p.key.at)
 
 -- where a search by halving finds the estimate, or would put it
-abbrev pub estimate_place : Parameter → State → Place
+abbrev pub estimate_place : Parameter → State → Result ℕ ℕ
 estimate_place r x = sought parameter_order r (used_rows x.used.estimates x.estimates)
 
-abbrev pub ranked_at : Place → Result ℕ Fault
-ranked_at (Found k) = Ok k
-ranked_at (Gap k) = Err RecordAbsent
+abbrev pub ranked_at : Result ℕ ℕ → Result ℕ Fault
+ranked_at (Ok k) = Ok k
+ranked_at (Err k) = Err RecordAbsent
 
 abbrev pub estimate_rank : Parameter → State → Result ℕ Fault
 estimate_rank r x = ranked_at (estimate_place r x)
@@ -139,61 +138,61 @@ abbrev pub site_put_answer : Site → State → Result ℕ Fault
 site_put_answer r x = put_answer site_order r x.used.sites x.sites
 
 abbrev pub site_put : Site → State → State
-site_put r x = site_rows x (put_rows site_order r x.used.sites x.sites) (value_or (site_put_answer r x) x.used.sites)
+site_put r x = site_rows x (put_rows site_order r x.used.sites x.sites) (result_unwrap_or (site_put_answer r x) x.used.sites)
 
 abbrev pub site_drop_answer : Site → State → Result ℕ Fault
 site_drop_answer r x = drop_answer site_order r x.used.sites x.sites
 
 abbrev pub site_dropped : Site → State → State
-site_dropped r x = site_rows x (drop_rows site_order blank_site r x.used.sites x.sites) (value_or (site_drop_answer r x) x.used.sites)
+site_dropped r x = site_rows x (drop_rows site_order blank_site r x.used.sites x.sites) (result_unwrap_or (site_drop_answer r x) x.used.sites)
 
 abbrev pub span_put_answer : Span → State → Result ℕ Fault
 span_put_answer r x = put_answer span_order r x.used.spans x.spans
 
 abbrev pub span_put : Span → State → State
-span_put r x = span_rows x (put_rows span_order r x.used.spans x.spans) (value_or (span_put_answer r x) x.used.spans)
+span_put r x = span_rows x (put_rows span_order r x.used.spans x.spans) (result_unwrap_or (span_put_answer r x) x.used.spans)
 
 abbrev pub span_drop_answer : Span → State → Result ℕ Fault
 span_drop_answer r x = drop_answer span_order r x.used.spans x.spans
 
 abbrev pub span_dropped : Span → State → State
-span_dropped r x = span_rows x (drop_rows span_order blank_span r x.used.spans x.spans) (value_or (span_drop_answer r x) x.used.spans)
+span_dropped r x = span_rows x (drop_rows span_order blank_span r x.used.spans x.spans) (result_unwrap_or (span_drop_answer r x) x.used.spans)
 
 abbrev pub apriori_put_answer : Parameter → State → Result ℕ Fault
 apriori_put_answer r x = put_answer parameter_order r x.used.aprioris x.aprioris
 
 abbrev pub apriori_put : Parameter → State → State
-apriori_put r x = apriori_rows x (put_rows parameter_order r x.used.aprioris x.aprioris) (value_or (apriori_put_answer r x) x.used.aprioris)
+apriori_put r x = apriori_rows x (put_rows parameter_order r x.used.aprioris x.aprioris) (result_unwrap_or (apriori_put_answer r x) x.used.aprioris)
 
 abbrev pub apriori_drop_answer : Parameter → State → Result ℕ Fault
 apriori_drop_answer r x = drop_answer parameter_order r x.used.aprioris x.aprioris
 
 abbrev pub apriori_dropped : Parameter → State → State
-apriori_dropped r x = apriori_rows x (drop_rows parameter_order blank_parameter r x.used.aprioris x.aprioris) (value_or (apriori_drop_answer r x) x.used.aprioris)
+apriori_dropped r x = apriori_rows x (drop_rows parameter_order blank_parameter r x.used.aprioris x.aprioris) (result_unwrap_or (apriori_drop_answer r x) x.used.aprioris)
 
 -- the rows of the estimates; their cells are moved by steps of their own
 abbrev pub estimate_put_answer : Parameter → State → Result ℕ Fault
 estimate_put_answer r x = put_answer parameter_order r x.used.estimates x.estimates
 
 abbrev pub estimate_put : Parameter → State → State
-estimate_put r x = estimate_rows x (put_rows parameter_order r x.used.estimates x.estimates) (value_or (estimate_put_answer r x) x.used.estimates)
+estimate_put r x = estimate_rows x (put_rows parameter_order r x.used.estimates x.estimates) (result_unwrap_or (estimate_put_answer r x) x.used.estimates)
 
 abbrev pub estimate_drop_answer : Parameter → State → Result ℕ Fault
 estimate_drop_answer r x = drop_answer parameter_order r x.used.estimates x.estimates
 
 abbrev pub estimate_dropped : Parameter → State → State
-estimate_dropped r x = estimate_rows x (drop_rows parameter_order blank_parameter r x.used.estimates x.estimates) (value_or (estimate_drop_answer r x) x.used.estimates)
+estimate_dropped r x = estimate_rows x (drop_rows parameter_order blank_parameter r x.used.estimates x.estimates) (result_unwrap_or (estimate_drop_answer r x) x.used.estimates)
 
 -- ---- cells
 
 -- a rank is opened where a new estimate goes; one that is there has its rank
-abbrev pub open_answer : Place → State → Result (Unit {0}) Fault
-open_answer (Found k) x = Ok tt
-open_answer (Gap k) x = cond (openable (length x.cells) x.used.estimates k) (Ok tt) (Err TableFull)
+abbrev pub open_answer : Result ℕ ℕ → State → Result (Unit {0}) Fault
+open_answer (Ok k) x = Ok tt
+open_answer (Err k) x = cond (openable (length x.cells) x.used.estimates k) (Ok tt) (Err TableFull)
 
-abbrev pub rank_opened : Place → State → State
-rank_opened (Found k) x = x
-rank_opened (Gap k) x = cell_rows x (rows_of x.places.estimates (opened_in zero_number (length x.cells) x.used.estimates k (cell zero_number x.cells)))
+abbrev pub rank_opened : Result ℕ ℕ → State → State
+rank_opened (Ok k) x = x
+rank_opened (Err k) x = cell_rows x (rows_of x.places.estimates (opened_in zero_number (length x.cells) x.used.estimates k (cell zero_number x.cells)))
 
 abbrev pub close_answer : ℕ → State → Result (Unit {0}) Fault
 close_answer k x = cond (closable (length x.cells) x.used.estimates k) (Ok tt) (Err RecordAbsent)

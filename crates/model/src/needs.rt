@@ -9,8 +9,5 @@ use records::parameters::Parameter;
 pub fn is_stationed(p: &Parameter) -> bool
     ensures { result ≡ stationed p.now }
 {
-    match find_type(&p.key.name) {
-        Some(t) => t.stationed,
-        None => false,
-    }
+    find_type(&p.key.name).is_some_and(|t| t.stationed)
 }

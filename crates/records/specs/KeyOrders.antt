@@ -8,8 +8,8 @@ use Rattle.codes.specs.Codes.{read_technique}
 use Rattle.std.specs.Ordering.{ordering_then, nat_cmp}
 use Rattle.codes.specs.Order.{TotalOrder, lex}
 use Rattle.codes.proofs.Comparing.{lex_order, rank_order, then_order}
-use Rattle.tables.specs.Keys.{Order}
-use Rattle.tables.proofs.Orders.{by_key}
+use Rattle.std.specs.Cmp.{IsTotalOrder}
+use Rattle.std.proofs.lemmas.Cmp.{on_total}
 use Rattle.records.specs.Keys.{site_key_order, solution_key_order}
 use Rattle.records.specs.Sites.{site_order}
 use Rattle.codes.specs.Codes.{technique_letter}
@@ -27,8 +27,8 @@ use Rattle.records.specs.declared.keys.SolutionKey.{SolutionKey}
 use Rattle.records.specs.declared.sites.Site.{Site}
 
 -- a total order of keys is an order of what has them
-pub order_of : {R K : Type 0} (key : R → K) (c : K → K → Ordering) → TotalOrder c → Order (λ x y. c (key x) (key y))
-order_of key c o = by_key key c (record { flip = o.flip; trans = o.trans; alike = λ x y z e. ap (λ t. c t z) (o.same x y e) })
+pub order_of : {R K : Type 0} (key : R → K) (c : K → K → Ordering) → TotalOrder c → IsTotalOrder (λ x y. c (key x) (key y))
+order_of key c o = on_total key (record { antisymm = o.flip; trans = o.trans; congr = λ x y z e. ap (λ t. c t z) (o.same x y e) })
 
 pub site_keys : TotalOrder site_key_order
 site_keys = then_order (λ (x : SiteKey). x.code) (λ x. x.point) lex lex lex_order lex_order
@@ -38,7 +38,7 @@ pub solution_keys : TotalOrder solution_key_order
 solution_keys = then_order (λ (x : SolutionKey). x.site) (λ x. x.solution) site_key_order lex site_keys lex_order
     (λ x y p q. ap (λ t. record { site = t; solution = x.solution }) p ∙ ap (λ t. record { site = y.site; solution = t }) q)
 
-pub site_order_lem : Order site_order
+pub site_order_lem : IsTotalOrder site_order
 site_order_lem = order_of (λ (x : Site). x.key) site_key_order site_keys
 
 ok_same : {A : Type 0} {E : Type 0} (x y : A) → ◌≡◌ {A = Result A E} (Ok x) (Ok y) → x ≡ y
@@ -62,7 +62,7 @@ pub span_keys : TotalOrder span_key_order
 span_keys = then_order (λ (x : SpanKey). x.at) (λ x. x.technique) solution_key_order (λ t u. nat_cmp (technique_letter t) (technique_letter u)) solution_keys letters
     (λ x y p q. ap (λ t. record { at = t; technique = x.technique }) p ∙ ap (λ t. record { at = y.at; technique = t }) q)
 
-pub span_order_lem : Order span_order
+pub span_order_lem : IsTotalOrder span_order
 span_order_lem = order_of (λ (x : Span). x.key) span_key_order span_keys
 
 -- the name and the epoch, as one part of a key
@@ -74,5 +74,5 @@ pub parameter_keys : TotalOrder parameter_key_order
 parameter_keys = then_order (λ (x : ParameterKey). x.at) (λ x. (x.name, x.epoch)) solution_key_order (λ x y. ordering_then (lex x.0 y.0) (epoch_order x.1 y.1)) solution_keys name-epoch
     (λ x y p q. ap (λ t. record { at = t; name = x.name; epoch = x.epoch }) p ∙ ap (λ t. record { at = y.at; name = t.0; epoch = t.1 }) q)
 
-pub parameter_order_lem : Order parameter_order
+pub parameter_order_lem : IsTotalOrder parameter_order
 parameter_order_lem = order_of (λ (x : Parameter). x.key) parameter_key_order parameter_keys

@@ -1,5 +1,5 @@
 -- What a writing comes to where register and tables stand for a solution. Assumes nothing.
-use Rattle.std.proofs.Common.{◌≡◌, ℕ, ◌≤◌, Bool, true, false, cond, leb, List, length, Some, None, Ok, Err, sym, refl, ap, ◌∙◌, subst, arith}
+use Rattle.std.proofs.Common.{◌≡◌, ℕ, ◌≤◌, Bool, true, false, cond, leb, List, length, Some, None, Ok, Err, Result, sym, refl, ap, ◌∙◌, subst, arith}
 use Rattle.copies.specs.Copy.{fair_copy}
 use Rattle.copies.specs.Lengths.{copy_length}
 use Rattle.copies.specs.Measures.{countable, measured}
@@ -14,10 +14,12 @@ use Rattle.model.specs.States.{Stands, State, allowed, own}
 use Rattle.model.specs.Steps.{shown}
 use Rattle.model.specs.declared.counts.Counts.{Counts}
 use Rattle.headings.specs.declared.headers.Head.{Head}
+use Rattle.refusals.specs.declared.Fault.{Fault}
 use Rattle.refusals.specs.declared.Fault.TheVariants.{MediumTooSmall, NoHead, TableLengths}
 use Rattle.register.specs.Writing.{Writes, written, written_by}
 use Rattle.std.proofs.lemmas.Bool.{and_from, and_parts, both_ways, le-leb, leb-true}
-use Rattle.tables.specs.Rows.{plain, value_or}
+use Rattle.std.specs.Result.{result_unwrap_or}
+use Rattle.tables.specs.Rows.{plain}
 use Rattle.triangle.proofs.Tri.{tri_bound}
 
 -- tables of other lengths
@@ -33,7 +35,7 @@ pub write_headless : (x : State) (before : List ℕ) (room : ℕ) → own x ≡ 
 write_headless x before room o e = record {
   strange = λ n. absurd (both_ways (own x) n o);
   answers = λ s st. ap (λ h. unplaced (plain (written_by h s room))) (sym e ∙ ap (λ y. y.head) st.laid_out);
-  leaves = λ s st. ap (λ h. value_or (written_by h s room) before) (sym e ∙ ap (λ y. y.head) st.laid_out);
+  leaves = λ s st. ap (λ h. result_unwrap_or (written_by h s room) before) (sym e ∙ ap (λ y. y.head) st.laid_out);
 }
 
 -- the limits of each sort, of the places that a register may be made over
@@ -114,21 +116,24 @@ module _ (x : State) (s : Solution) (st : Stands x s) (h : Head) (held : x.head 
       by_measure false e = (sym (ruled room false e), (c.refused (measures room ∙ e)).1)
 
 -- a head, and a medium that can hold the copy
-pub write_granted : (x : State) (h : Head) (before after : List ℕ) (room left : ℕ) → own x ≡ true → x.head ≡ Some h
-    → (x.used.estimates ≤ 2000 → Copies before room h (with_head (shown x) (Some h)) (Ok tt) after left) → Writes x before room (unplaced (Ok tt)) after
-write_granted x h before after room left o e w = record {
-  strange = λ n. absurd (both_ways (own x) n o);
-  answers = λ s st. ap (λ r. unplaced (plain r)) (copied_in x s st h e before after room left (w (few-used x s st)));
-  leaves = λ s st. ap (λ r. value_or r before) (copied_in x s st h e before after room left (w (few-used x s st)));
-}
+pub write_granted : (x : State) (h : Head) (a : Result (Unit {0}) Full) (before after : List ℕ) (room left : ℕ) → own x ≡ true → x.head ≡ Some h → a ≡ Ok tt
+    → (x.used.estimates ≤ 2000 → Copies before room h (with_head (shown x) (Some h)) a after left) → Writes x before room (unplaced (Ok tt)) after
+write_granted x h a before after room left o e g w =
+    let copied = λ (s : Solution) (st : Stands x s). copied_in x s st h e before after room left (subst (λ r. Copies before room h (with_head (shown x) (Some h)) r after left) g (w (few-used x s st))) in
+    record {
+      strange = λ n. absurd (both_ways (own x) n o);
+      answers = λ s st. ap (λ r. unplaced (plain r)) (copied s st);
+      leaves = λ s st. ap (λ r. result_unwrap_or r before) (copied s st);
+    }
 
--- a head, and a medium that cannot hold the copy
-pub write_refused : (x : State) (h : Head) (f : Full) (before after : List ℕ) (room left : ℕ) → own x ≡ true → x.head ≡ Some h
-    → (x.used.estimates ≤ 2000 → Copies before room h (with_head (shown x) (Some h)) (Err f) after left) → Writes x before room (unplaced (Err MediumTooSmall)) after
-write_refused x h f before after room left o e w = record {
-  strange = λ n. absurd (both_ways (own x) n o);
-  answers = λ s st. ap (λ r. unplaced (plain r)) (kept_out x s st h e before after room left f (w (few-used x s st))).0;
-  leaves = λ s st.
-      let k = kept_out x s st h e before after room left f (w (few-used x s st)) in
-      k.1 ∙ ap (λ r. value_or r before) k.0;
-}
+-- a head, and a medium that cannot hold the copy: b is what the caller is told
+pub write_refused : (x : State) (h : Head) (f : Full) (a : Result (Unit {0}) Full) (b : Result (Unit {0}) Fault) (before after : List ℕ) (room left : ℕ) → own x ≡ true → x.head ≡ Some h
+    → a ≡ Err f → b ≡ Err MediumTooSmall
+    → (x.used.estimates ≤ 2000 → Copies before room h (with_head (shown x) (Some h)) a after left) → Writes x before room (unplaced b) after
+write_refused x h f a b before after room left o e g m w =
+    let kept = λ (s : Solution) (st : Stands x s). kept_out x s st h e before after room left f (subst (λ r. Copies before room h (with_head (shown x) (Some h)) r after left) g (w (few-used x s st))) in
+    record {
+      strange = λ n. absurd (both_ways (own x) n o);
+      answers = λ s st. ap unplaced (m ∙ ap plain (kept s st).0);
+      leaves = λ s st. (kept s st).1 ∙ ap (λ r. result_unwrap_or r before) (kept s st).0;
+    }

@@ -1,3 +1,4 @@
+pub mod Tests
 pub mod Views
 pub mod Making
 pub mod Writing

@@ -8,7 +8,8 @@ use Rattle.headings.specs.declared.headers.Head.{Head}
 use Rattle.refusals.specs.declared.Fault.{Fault}
 use Rattle.refusals.specs.declared.Fault.TheVariants.{MediumTooSmall, NoHead, TableLengths}
 use Rattle.refusals.specs.declared.Refusal.{Refusal}
-use Rattle.tables.specs.Rows.{plain, value_or}
+use Rattle.std.specs.Result.{result_unwrap_or}
+use Rattle.tables.specs.Rows.{plain}
 
 abbrev pub written_by : Option Head → Solution → ℕ → Result (List ℕ) Fault
 written_by None s room = Err NoHead
@@ -24,4 +25,4 @@ pub record Writes (x : State) (before : List ℕ) (room : ℕ) (a : Result (Unit
   pub strange : own x ≡ false → (a ≡ Err (record { fault = TableLengths; line = 0 })) × (after ≡ before)
   -- its own tables: granted with just the fair copy in the medium, or refused with the medium as it was
   pub answers : (s : Solution) → Stands x s → a ≡ unplaced (plain (written s room))
-  pub leaves : (s : Solution) → Stands x s → after ≡ value_or (written s room) before
+  pub leaves : (s : Solution) → Stands x s → after ≡ result_unwrap_or (written s room) before

@@ -16,6 +16,7 @@ use crate::handed::{cell_number, data_line, header_line};
 use crate::lent::{Register, Tables};
 use crate::writing::write_held;
 use codes::letters::MatrixKind;
+use decimals::number::Number;
 use headings::headers::{Head, read_edited_header};
 use media::{Medium, Source};
 use model::counts::{Counts, Sort};
@@ -35,23 +36,6 @@ const NONE: Counts = Counts {
     aprioris: 0,
 };
 
-// A fault that stands in no line of a file.
-fn refused(fault: Fault) -> Refusal
-    ensures { result ≡ record { fault = fault; line = 0 } }
-{
-    Refusal { fault, line: 0 }
-}
-
-// The answer of a call, whose faults stand in no line of a file.
-fn answer(done: Result<(), Fault>) -> Result<(), Refusal>
-    ensures { result ≡ unplaced done }
-{
-    match done {
-        Ok(()) => Ok(()),
-        Err(fault) => Err(refused(fault)),
-    }
-}
-
 // Whether the tables have the lengths that the register was made over.
 pub(crate) fn is_own(register: &Register, tables: &Tables) -> bool
     ensures { result ≡ own (view register.now tables.now) }
@@ -69,10 +53,7 @@ pub(crate) fn is_own(register: &Register, tables: &Tables) -> bool
 fn fits_triangle(estimates: usize, cells: usize) -> bool
     ensures { result ≡ triangular estimates cells }
 {
-    match triangle_places(estimates) {
-        Some(places) => cells == places,
-        None => false,
-    }
+    triangle_places(estimates) == Some(cells)
 }
 
 // Whether a register may be made over so many places.
@@ -85,7 +66,7 @@ fn is_allowed(places: &Counts) -> bool
         && places.aprioris <= 2000
 }
 
-// The record of a data line's 80 columns, put.
+// The record of a data line's 80 columns, put. The sort is what the caller hands in, and each has a record of its own type.
 fn put_line(
     register: &mut Register,
     tables: &mut Tables,
@@ -120,6 +101,7 @@ fn drop_line(
     }
 }
 
+// A put and a drop differ in the step that they run, and in what it needs of the line: a printable one is put.
 fn put_bytes(
     register: &mut Register,
     tables: &mut Tables,
@@ -224,9 +206,7 @@ fn blank_tables(tables: &mut Tables)
     blank_rows(tables.spans);
     blank_rows(tables.estimates);
     blank_rows(tables.aprioris);
-    tables
-        .cells
-        .fill(<decimals::number::Number as Cell>::zero());
+    tables.cells.fill(<Number as Cell>::zero());
     clear_row(tables.row);
 }
 
@@ -247,7 +227,7 @@ impl Register {
             head: None,
         };
         if !is_allowed(&places) || !is_own(&register, tables) {
-            return Err(refused(Fault::TableLengths));
+            return Err(Fault::TableLengths.into());
         }
         blank_tables(tables);
         Ok(register)
@@ -262,7 +242,7 @@ impl Register {
     ) -> Result<(), Refusal>
         ensures { Obeys (SetHead line.now kind) (view self.old tables.now) result (view self.new tables.now) }
     {
-        answer(head_bytes(self, tables, line, kind))
+        Ok(head_bytes(self, tables, line, kind)?)
     }
 
     // Puts a record, given as a data line of its block, whose index is not looked at: it takes the place of the record of its key,
@@ -276,7 +256,7 @@ impl Register {
         ensures obeys { Obeys (Put sort line.now) (view self.old tables.old) result (view self.new tables.new) }
         ensures slices { SameSlices tables.old tables.new }
     {
-        answer(put_bytes(self, tables, sort, line))
+        Ok(put_bytes(self, tables, sort, line)?)
     }
 
     // Drops the record whose key a data line names; only the columns of the key are looked at.
@@ -289,7 +269,7 @@ impl Register {
         ensures obeys { Obeys (Drop sort line.now) (view self.old tables.old) result (view self.new tables.new) }
         ensures slices { SameSlices tables.old tables.new }
     {
-        answer(drop_bytes(self, tables, sort, line))
+        Ok(drop_bytes(self, tables, sort, line)?)
     }
 
     // Sets the cell of two estimates, whose keys data lines name, in either order. Zero clears it.
@@ -303,7 +283,7 @@ impl Register {
         ensures obeys { Obeys (SetCell first.now second.now text.now) (view self.now tables.old) result (view self.now tables.new) }
         ensures slices { SameSlices tables.old tables.new }
     {
-        answer(cell_bytes(self, tables, first, second, text))
+        Ok(cell_bytes(self, tables, first, second, text)?)
     }
 
     // Writes the fair copy to the medium, in place of what it holds.
@@ -311,7 +291,7 @@ impl Register {
         ensures writes { Writes (view self.now tables.now) (M.Source.content medium.old) (M.Medium.room medium.old) result (M.Source.content medium.new) }
         ensures kept { M.Medium.room medium.new ≡ M.Medium.room medium.old }
     {
-        answer(write_held(self, tables, medium))
+        Ok(write_held(self, tables, medium)?)
     }
 
     // How many records of each sort the register holds.

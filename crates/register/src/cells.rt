@@ -7,11 +7,11 @@ ghost use Rattle.triangle.specs.Triangle.{tri};
 use crate::lent::{Register, Tables};
 use records::parameters::Parameter;
 use refusals::Fault;
-use tables::table::{Place, find_in};
+use tables::table::find_in;
 use triangle::moves::{close_rank, open_rank};
 
-// Where the estimate of p's key stands, or would go.
-pub(crate) fn place_of(register: &Register, tables: &Tables, p: &Parameter) -> Place
+// Where the estimate of p's key stands, or the place before which it would go.
+pub(crate) fn place_of(register: &Register, tables: &Tables, p: &Parameter) -> Result<usize, usize>
     ensures { result ≡ estimate_place p.now (view register.now tables.now) }
 {
     find_in(tables.estimates, register.used.estimates, p)
@@ -21,22 +21,23 @@ pub(crate) fn place_of(register: &Register, tables: &Tables, p: &Parameter) -> P
 pub(crate) fn rank_of(register: &Register, tables: &Tables, p: &Parameter) -> Result<usize, Fault>
     ensures { result ≡ estimate_rank p.now (view register.now tables.now) }
 {
-    match place_of(register, tables, p) {
-        Place::Found(rank) => Ok(rank),
-        Place::Gap(_) => Err(Fault::RecordAbsent),
-    }
+    place_of(register, tables, p).map_err(|_| Fault::RecordAbsent)
 }
 
 // Opens a rank where a new estimate goes; one that is there has its rank.
-pub(crate) fn open_for(register: &Register, tables: &mut Tables, place: Place) -> Result<(), Fault>
+pub(crate) fn open_for(
+    register: &Register,
+    tables: &mut Tables,
+    place: Result<usize, usize>,
+) -> Result<(), Fault>
     ensures answer { result ≡ open_answer place (view register.now tables.old) }
     ensures state { length tables.old.cells.now ≡ tri register.now.places.estimates → view register.now tables.new ≡ rank_opened place (view register.now tables.old) }
     ensures refused { is_ok result ≡ false → view register.now tables.new ≡ view register.now tables.old }
     ensures slices { SameSlices tables.old tables.new }
 {
     match place {
-        Place::Found(_) => Ok(()),
-        Place::Gap(rank) => open_rank(tables.cells, register.used.estimates, rank),
+        Ok(_) => Ok(()),
+        Err(rank) => open_rank(tables.cells, register.used.estimates, rank),
     }
 }
 

@@ -7,10 +7,7 @@ ghost use Rattle.register.specs.Views.{Step};
 use crate::cells::{close_at, open_for, place_of, rank_of};
 use crate::lent::{Register, Tables};
 use crate::needs::{has_site, has_span_record, is_served, needs_site, needs_span};
-use crate::rows::{
-    drop_apriori_row, drop_estimate_row, drop_site_row, drop_span_row, put_apriori_row,
-    put_estimate_row, put_site_row, put_span_row,
-};
+use crate::rows::{drop_row, put_row};
 use decimals::number::Number;
 use records::parameters::Parameter;
 use records::sites::Site;
@@ -26,7 +23,7 @@ pub(crate) fn put_site(
     requires { ValidSite site }
     ensures { Step (λ P s. put_site P s site) register.old tables.old result register.new tables.new }
 {
-    put_site_row(register, tables, site)
+    put_row(tables.sites, &mut register.used.sites, site)
 }
 
 // A site that is still needed stays.
@@ -43,7 +40,7 @@ pub(crate) fn drop_site(
     if needs_site(register, tables, &site.key) {
         return Err(Fault::StillNeeded);
     }
-    drop_site_row(register, tables, site)
+    drop_row(tables.sites, &mut register.used.sites, site)
 }
 
 // A span needs its site.
@@ -58,7 +55,7 @@ pub(crate) fn put_span(
     if !has_site(register, tables, &span.key.at.site) {
         return Err(Fault::NeedMissing);
     }
-    put_span_row(register, tables, span)
+    put_row(tables.spans, &mut register.used.spans, span)
 }
 
 // A span that is still needed stays.
@@ -75,7 +72,7 @@ pub(crate) fn drop_span(
     if needs_span(register, tables, span) {
         return Err(Fault::StillNeeded);
     }
-    drop_span_row(register, tables, span)
+    drop_row(tables.spans, &mut register.used.spans, span)
 }
 
 // A parameter of a station needs its site and a span.
@@ -90,7 +87,7 @@ pub(crate) fn put_apriori(
     if !is_served(register, tables, &apriori) {
         return Err(Fault::NeedMissing);
     }
-    put_apriori_row(register, tables, apriori)
+    put_row(tables.aprioris, &mut register.used.aprioris, apriori)
 }
 
 pub(crate) fn drop_apriori(
@@ -100,7 +97,7 @@ pub(crate) fn drop_apriori(
 ) -> Result<(), Fault>
     ensures { Step (λ P s. drop_apriori s apriori.now) register.old tables.old result register.new tables.new }
 {
-    drop_apriori_row(register, tables, apriori)
+    drop_row(tables.aprioris, &mut register.used.aprioris, apriori)
 }
 
 // A new estimate gets a rank with zero cells; one that takes another's place keeps the cells.
@@ -117,7 +114,7 @@ pub(crate) fn put_estimate(
     }
     let place = place_of(register, tables, &estimate);
     open_for(register, tables, place)?;
-    put_estimate_row(register, tables, estimate)
+    put_row(tables.estimates, &mut register.used.estimates, estimate)
 }
 
 // With its rank and its cells.
@@ -130,7 +127,7 @@ pub(crate) fn drop_estimate(
 {
     let rank = rank_of(register, tables, estimate)?;
     close_at(register, tables, rank)?;
-    drop_estimate_row(register, tables, estimate)
+    drop_row(tables.estimates, &mut register.used.estimates, estimate)
 }
 
 // Sets the cell of two estimates, in either order.

@@ -7,7 +7,8 @@ use records::sites::Site;
 use records::spans::Span;
 
 // The tables of a register: a place for each record, the lower triangle of the matrix over the places of the estimates, and the
-// working row, which has a number for each of those.
+// working row, which has a number for each of those. A register keeps no reference to them: each call is handed them, so that
+// the two stand side by side in the functions of this crate.
 #[derive(Drop)]
 pub struct Tables<'a> {
     pub sites: &'a mut [Site],

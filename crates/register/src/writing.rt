@@ -68,11 +68,7 @@ pub(crate) fn write_held<M: Medium>(
     if !is_own(register, tables) {
         return Err(Fault::TableLengths);
     }
-    match register.head {
-        None => Err(Fault::NoHead),
-        Some(head) => match write_used(register, tables, medium, &head) {
-            Ok(()) => Ok(()),
-            Err(_) => Err(Fault::MediumTooSmall),
-        },
-    }
+    let head = register.head.ok_or(Fault::NoHead)?;
+    write_used(register, tables, medium, &head)?;
+    Ok(())
 }

@@ -1,9 +1,12 @@
 -- Bytes that are added to those already there.
-use Rattle.std.proofs.Common.{◌≡◌, ℕ, ◌+◌, ◌<◌, ◌≤◌, cond, List, ◌++◌, length, get_or, take, drop, is_ok, IfOk, Ok, Err, Result, sym, ap, ◌∙◌, append_assoc, arith}
+use Rattle.std.proofs.Common.{◌≡◌, ℕ, ◌+◌, ◌<◌, ◌≤◌, cond, List, ◌++◌, length, get_or, take, drop, is_ok, IfOk, Some, None, Ok, Err, Option, Result, Bor, MatchOption, eqb, [], ◌∷◌, sym, refl, ap, ◌∙◌, inl, inr, append_assoc, arith}
 use Rattle.frame.specs.Headings.{columns, heading_of, squeezed}
+use Rattle.frame.specs.Frames.{block_of}
 use Rattle.frame.specs.Lines.{fetched}
+use Rattle.frame.specs.Titles.{place_of}
 use Rattle.frame.specs.declared.heading.Heading.{Heading}
 use Rattle.frame.specs.declared.line.Line.{Line}
+use Rattle.frame.specs.declared.title.Title.{Title}
 use Rattle.frame.specs.declared.title.Title.TheVariants.{SolutionEstimate}
 use Rattle.frame.specs.declared.walk.Block.{Block}
 use Rattle.headings.specs.Lines.{and_then}
@@ -12,7 +15,8 @@ use Rattle.refusals.specs.declared.Fault.{Fault}
 use Rattle.reports.specs.FileReport.{counted, data_lines_of, header_at, header_in}
 use Rattle.reports.specs.FrameReport.{block_line, block_lines}
 use Rattle.std.proofs.lemmas.List.{append-nil, at_drop_all, at_drop_more, take_all, take-append-le}
-use Rattle.std.proofs.lemmas.Bool.{cond-true, eq-eqb}
+use Rattle.std.proofs.lemmas.Bool.{cases_Bool, cond-true, eq-eqb}
+use Rattle.std.specs.Option.{option_copied, option_map_or}
 
 -- what a granted call has added
 pub added : {U E : Type 0} (r : Result U E) (before after xs ys : List ℕ) → after ≡ cond (is_ok r) (before ++ xs) before → xs ≡ ys → IfOk r (λ _. after ≡ before ++ ys)
@@ -56,3 +60,12 @@ pub counted_in : (cs : List ℕ) (bs : List Block) (x : Header × ℕ) → Ok x 
 counted_in cs bs x e n =
     let ok : counted (data_lines_of SolutionEstimate bs) x ≡ Ok x = cond-true _ _ _ (eq-eqb _ _ n) in
     sym ok ∙ ap (λ (r : Result (Header × ℕ) Fault). and_then r (counted (data_lines_of SolutionEstimate bs))) e
+
+-- the data lines of the block that was found
+data_of_block : (k : Title) (bs : List Block) → data_lines_of k bs ≡ option_map_or (λ (b : Block). b.data_lines) (block_of k bs) 0
+data_of_block k [] = refl
+data_of_block k (b ∷ bs) = elim (cases_Bool (eqb (place_of b.caption.title) (place_of k))) [ inl e ↦ rw e refl | inr e ↦ rw e (data_of_block k bs) ]
+
+pub lines_found : (k : Title) (bs : List Block) (o : Option (Bor Block)) (r : ℕ) → option_copied o ≡ block_of k bs → MatchOption o (r ≡ 0) (λ b. r ≡ b.now.data_lines) → r ≡ data_lines_of k bs
+lines_found k bs None r e h = h ∙ (ap (λ (o : Option Block). option_map_or (λ (b : Block). b.data_lines) o 0) e ∙ sym (data_of_block k bs))
+lines_found k bs (Some b) r e h = h ∙ (ap (λ (o : Option Block). option_map_or (λ (c : Block). c.data_lines) o 0) e ∙ sym (data_of_block k bs))

@@ -1,8 +1,9 @@
 use Rattle.model.proofs.EstimateSteps.{estimate_drop_absent, estimate_drop_does, estimate_drop_unclosed}
-use Rattle.register.proofs.Carried.{carried, slices_refl, slices-trans}
+use Rattle.register.proofs.Carried.{carried, slices_refl}
 use Rattle.register.proofs.edits.drop_estimate.Goals as goal
 use Rattle.register.specs.Views.{view}
-use Rattle.std.proofs.Common.{◌≡◌, is_ok, Err, sym, refl, ap, ◌∙◌, rules}
+use Rattle.model.specs.Steps.{estimate_rows}
+use Rattle.std.proofs.Common.{◌≡◌, is_ok, Err, sym, refl, ap, ◌∙◌, rules, ap₂}
 
 pub returns-in_err-rank : goal.returns-in_err-rank
 returns-in_err-rank c =
@@ -29,7 +30,8 @@ returns c =
     let y = view c.args.register.now c.close_at.new.tables in
     let rank = c.in_ok-rank.rank in
     let closed = c.close_at.ensures in
-    let done = c.drop_estimate_row.ensures in
+    let done = c.drop_row.ensures in
     let there = sym c.rank_of.ensures ∙ c.in_ok-rank.was in
     let does = estimate_drop_does c.args.estimate.now x rank there (sym closed.answer ∙ c.in_ok-close_at.was) y closed.state refl in
-    (carried _ x _ _ _ _ done.answer done.state does, slices-trans c.args.tables.now c.close_at.new.tables c.drop_estimate_row.new.tables closed.slices done.slices)
+    let s = closed.slices in
+    (carried _ x _ _ _ _ done.answer (ap₂ (estimate_rows y) done.rows done.used) does, record { sites = s.sites; spans = s.spans; estimates = s.estimates; aprioris = s.aprioris; cells = s.cells; row = s.row })

@@ -2,7 +2,8 @@ use Rattle.model.proofs.SiteSteps.{site_drop_absent, site_drop_does, site_drop_n
 use Rattle.register.proofs.Carried.{carried, slices_refl}
 use Rattle.register.proofs.edits.drop_site.Goals as goal
 use Rattle.register.specs.Views.{view}
-use Rattle.std.proofs.Common.{sym}
+use Rattle.model.specs.Steps.{site_rows}
+use Rattle.std.proofs.Common.{sym, refl, ap₂}
 
 pub returns-then-not-has_site : goal.returns-then-not-has_site
 returns-then-not-has_site c =
@@ -17,7 +18,7 @@ returns-then-needs_site c =
 pub returns : goal.returns
 returns c =
     let x = view c.args.register.now c.args.tables.now in
-    let done = c.drop_site_row.ensures in
+    let done = c.drop_row.ensures in
     let free = sym c.if-needs_site.ensures in
     let there = sym c.if-not-has_site.ensures in
-    (carried _ x _ _ _ _ done.answer done.state (site_drop_does c.args.site.now x free there), done.slices)
+    (carried _ x _ _ _ _ done.answer (ap₂ (site_rows x) done.rows done.used) (site_drop_does c.args.site.now x free there), record { sites = refl; spans = refl; estimates = refl; aprioris = refl; cells = refl; row = refl })

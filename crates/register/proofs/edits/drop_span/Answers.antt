@@ -2,7 +2,8 @@ use Rattle.model.proofs.SpanSteps.{span_drop_absent, span_drop_does, span_drop_n
 use Rattle.register.proofs.Carried.{carried, slices_refl}
 use Rattle.register.proofs.edits.drop_span.Goals as goal
 use Rattle.register.specs.Views.{view}
-use Rattle.std.proofs.Common.{sym}
+use Rattle.model.specs.Steps.{span_rows}
+use Rattle.std.proofs.Common.{sym, refl, ap₂}
 
 pub returns-then-not-has_span_record : goal.returns-then-not-has_span_record
 returns-then-not-has_span_record c =
@@ -17,7 +18,7 @@ returns-then-needs_span c =
 pub returns : goal.returns
 returns c =
     let x = view c.args.register.now c.args.tables.now in
-    let done = c.drop_span_row.ensures in
+    let done = c.drop_row.ensures in
     let free = sym c.if-needs_span.ensures in
     let there = sym c.if-not-has_span_record.ensures in
-    (carried _ x _ _ _ _ done.answer done.state (span_drop_does c.args.span.now x free there), done.slices)
+    (carried _ x _ _ _ _ done.answer (ap₂ (span_rows x) done.rows done.used) (span_drop_does c.args.span.now x free there), record { sites = refl; spans = refl; estimates = refl; aprioris = refl; cells = refl; row = refl })

@@ -1,9 +1,9 @@
 use Rattle.model.proofs.EstimateSteps.{estimate_put_does, estimate_put_full, estimate_put_lacking}
-use Rattle.register.proofs.Carried.{carried, slices_refl, slices-trans}
+use Rattle.register.proofs.Carried.{carried, slices_refl}
 use Rattle.register.proofs.edits.put_estimate.Goals as goal
 use Rattle.register.specs.Views.{view}
-use Rattle.model.specs.Steps.{open_answer, rank_opened}
-use Rattle.std.proofs.Common.{◌≡◌, is_ok, Err, sym, refl, ap, ◌∙◌, rules}
+use Rattle.model.specs.Steps.{open_answer, rank_opened, estimate_rows}
+use Rattle.std.proofs.Common.{◌≡◌, is_ok, Err, sym, refl, ap, ◌∙◌, rules, ap₂}
 
 pub returns-then-not-is_served : goal.returns-then-not-is_served
 returns-then-not-is_served c =
@@ -25,9 +25,10 @@ returns c =
     let x = view c.args.register.now c.args.tables.now in
     let y = view c.args.register.now c.open_for.new.tables in
     let opened = c.open_for.ensures in
-    let done = c.put_estimate_row.ensures in
+    let done = c.put_row.ensures in
     let was = c.in_ok-open_for.was in
     let place = c.place_of-place.ensures in
     let grants = ap (λ p. open_answer p x) (sym place) ∙ sym opened.answer ∙ was in
     let does = estimate_put_does c.args.estimate c.requires x (sym c.if-not-is_served.ensures) grants y (λ l. opened.state l ∙ ap (λ p. rank_opened p x) place) refl in
-    (carried _ x _ _ _ _ done.answer done.state does, slices-trans c.args.tables.now c.open_for.new.tables c.put_estimate_row.new.tables opened.slices done.slices)
+    let s = opened.slices in
+    (carried _ x _ _ _ _ done.answer (ap₂ (estimate_rows y) done.rows done.used) does, record { sites = s.sites; spans = s.spans; estimates = s.estimates; aprioris = s.aprioris; cells = s.cells; row = s.row })
