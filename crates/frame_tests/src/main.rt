@@ -8,7 +8,7 @@
 use media::bytes::Bytes;
 use reports::files::file_report;
 use reports::frames::frame_report;
-use std::alloc::AllocError;
+use std::alloc::{AllocError, Global};
 use std::io;
 use std::io::Write;
 
@@ -24,45 +24,60 @@ const FIVE_BLOCKS: &[u8] = b"+SITE/ID
 -SOLUTION/MATRIX_ESTIMATE L COVA
 ";
 
-fn add_line(content: &mut Vec<u8>, line: &[u8]) -> Result<(), AllocError> {
-    let n = line.len();
-    if n == 1 && line[0] == b'@' {
-        return content.extend_from_slice(FIVE_BLOCKS);
-    }
-    if n > 0 && line[n - 1] == b'\\' {
-        return content.extend_from_slice(&line[..n - 1]);
-    }
-    content.extend_from_slice(line)?;
-    content.extend_from_slice(b"\n")
+// A case of the table: its content, and whether its header is reported too.
+#[derive(Drop)]
+struct Case {
+    content: Vec<u8>,
+    with_header: bool,
 }
 
-fn print_report(rt: &HostRuntime, content: &[u8], with_header: bool) -> io::Result<()> {
-    let source = Bytes::new(content);
-    let report = if with_header {
-        file_report(rt.alloc(), &source)?
-    } else {
-        frame_report(rt.alloc(), &source)?
-    };
-    rt.stdout().write_all(&report)
+impl Case {
+    fn new(heap: Global, with_header: bool) -> Case {
+        Case {
+            content: Vec::new(heap),
+            with_header,
+        }
+    }
+
+    fn add_line(&mut self, line: &[u8]) -> Result<(), AllocError> {
+        if line == b"@".as_slice() {
+            return self.content.extend_from_slice(FIVE_BLOCKS);
+        }
+        if let Some(unended) = line.strip_suffix(b"\\") {
+            return self.content.extend_from_slice(unended);
+        }
+        self.content.extend_from_slice(line)?;
+        self.content.extend_from_slice(b"\n")
+    }
+
+    fn print(&self, rt: &HostRuntime) -> io::Result<()> {
+        let source = Bytes::new(&self.content);
+        let report = if self.with_header {
+            file_report(rt.alloc(), &source)?
+        } else {
+            frame_report(rt.alloc(), &source)?
+        };
+        rt.stdout().write_all(&report)
+    }
 }
 
 fn main(rt: HostRuntime) -> io::Result<()> {
-    let mut content = Vec::new(rt.alloc());
-    let mut is_open = false;
-    let mut with_header = false;
+    // the lines before the first case: they are one only where there is no other
+    let mut before = Case::new(rt.alloc(), false);
+    let mut case: Option<Case> = None;
     for line in rt.lines(rt.alloc()) {
         let line = line?;
-        if !line.starts_with("#") {
-            add_line(&mut content, line.as_bytes())?;
-            continue;
+        if line.starts_with("#") {
+            if let Some(done) = &case {
+                done.print(&rt)?;
+            }
+            case = Some(Case::new(rt.alloc(), line.starts_with("##")));
+            rt.println(line)?;
+        } else {
+            case.as_mut()
+                .unwrap_or(&mut before)
+                .add_line(line.as_bytes())?;
         }
-        if is_open {
-            print_report(&rt, &content, with_header)?;
-        }
-        is_open = true;
-        with_header = line.starts_with("##");
-        content.clear();
-        rt.println(line)?;
     }
-    print_report(&rt, &content, with_header)
+    case.as_ref().unwrap_or(&before).print(&rt)
 }

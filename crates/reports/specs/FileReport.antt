@@ -1,10 +1,9 @@
 -- What is printed of a file: its header and its frame, or a refusal.
-use Rattle.std.specs.Prelude.{ℕ, cond, List, [], ◌∷◌, ◌++◌, take, drop, replicate, None, Ok, Err, codes, Result, ◌==◌}
+use Rattle.std.specs.Prelude.{ℕ, cond, List, [], ◌∷◌, ◌++◌, take, drop, replicate, Some, None, Ok, Err, codes, Option, Result, ◌==◌}
 use Rattle.frame.specs.Frames.{framed}
 use Rattle.frame.specs.Lines.{fetched}
 use Rattle.frame.specs.Titles.{place_of}
-use Rattle.frame.specs.declared.line.Fetched.{Fetched}
-use Rattle.frame.specs.declared.line.Fetched.TheVariants.{End, Unfit, Fit}
+use Rattle.frame.specs.declared.line.Line.{Line}
 use Rattle.frame.specs.declared.title.Title.{Title}
 use Rattle.frame.specs.declared.title.Title.TheVariants.{SolutionEstimate}
 use Rattle.frame.specs.declared.walk.Block.{Block}
@@ -16,7 +15,7 @@ use Rattle.headings.specs.declared.headers.Header.{Header}
 use Rattle.refusals.specs.declared.Fault.{Fault}
 use Rattle.refusals.specs.declared.Fault.TheVariants.{NoHeaderLine, OutOfStep}
 use Rattle.refusals.specs.declared.Refusal.{Refusal}
-use Rattle.reports.specs.FrameReport.{block_lines, last_line}
+use Rattle.reports.specs.FrameReport.{frame_lines}
 use Rattle.reports.specs.Refused.{refusal_line}
 
 -- the number of data lines of the block with this title; 0 where there is none
@@ -24,10 +23,10 @@ abbrev pub data_lines_of : Title → List Block → ℕ
 data_lines_of k [] = 0
 data_lines_of k (b ∷ bs) = cond (place_of b.caption.title == place_of k) b.data_lines (data_lines_of k bs)
 
-abbrev pub header_at : Fetched → Result (Header × ℕ) Fault
-header_at End = Err NoHeaderLine
-header_at Unfit = Err NoHeaderLine
-header_at (Fit ln) = read_header ln.columns
+abbrev pub header_at : Result (Option Line) Fault → Result (Header × ℕ) Fault
+header_at (Ok None) = Err NoHeaderLine
+header_at (Ok (Some ln)) = read_header ln.columns
+header_at (Err e) = Err NoHeaderLine
 
 -- the header's count is the number of data lines with estimates
 abbrev pub counted : ℕ → Header × ℕ → Result (Header × ℕ) Fault
@@ -44,7 +43,7 @@ header_line x = codes "HEADER " ++ (take 56 (drop 11 (header_text x.0 x.1 (repli
 -- a fault of the header stands in line 1
 abbrev pub after_header : List ℕ → Frame → Result (Header × ℕ) Fault → List ℕ
 after_header cs f (Err e) = refusal_line (record { fault = e; line = 1 })
-after_header cs f (Ok x) = header_line x ++ (block_lines cs (take f.count f.blocks) ++ last_line f.lines)
+after_header cs f (Ok x) = header_line x ++ frame_lines cs f
 
 abbrev pub file_report_of : List ℕ → Result Frame Refusal → List ℕ
 file_report_of cs (Ok f) = after_header cs f (header_in cs (take f.count f.blocks))

@@ -3,11 +3,11 @@ ghost use Rattle.frame.specs.Lines.{fetched};
 ghost use Rattle.reports.specs.FileReport.{after_header, data_lines_of, file_report, header_at, header_in, header_line};
 ghost use Rattle.std.specs.Prelude.{◌≡◌, ◌++◌, take, IfOk, OnOk};
 
-use crate::frames::{front, put_blocks, put_last};
+use crate::frames::{front, put_frame};
 use crate::refusal::refusal_line;
-use frame::line::{Fetched, fetch};
+use frame::line::fetch;
 use frame::title::Title;
-use frame::walk::{Block, Frame, check};
+use frame::walk::{Block, Frame, block_of, check};
 use headings::headers::{Header, read_header, write_header};
 use media::Source;
 use refusals::{Fault, Refusal};
@@ -17,12 +17,7 @@ use std::alloc::{AllocError, Global};
 fn data_lines_of(blocks: &[Block], title: Title) -> u32
     ensures { result ≡ data_lines_of title blocks.now }
 {
-    for block in blocks {
-        if block.caption.title.place() == title.place() {
-            return block.data_lines;
-        }
-    }
-    0
+    block_of(blocks, title).map_or(0, |block| block.data_lines)
 }
 
 // The header on the first line.
@@ -30,7 +25,7 @@ fn first_header<S: Source>(source: &S) -> Result<(Header, u32), Fault>
     ensures { result ≡ header_at (fetched (S.content source.now)) }
 {
     match fetch(source, 0) {
-        Fetched::Fit(line) => read_header(&line.columns),
+        Ok(Some(line)) => read_header(&line.columns),
         _ => Err(Fault::NoHeaderLine),
     }
 }
@@ -58,20 +53,13 @@ fn put_header(out: &mut Vec<u8>, header: &Header, count: u32) -> Result<(), Allo
 }
 
 // The lines of a frame that is right, with the header before them; or only the header's fault, which stands in line 1.
-fn put_file<S: Source>(
-    heap: Global,
-    out: &mut Vec<u8>,
-    source: &S,
-    frame: &Frame,
-) -> Result<(), AllocError>
+fn put_file<S: Source>(out: &mut Vec<u8>, source: &S, frame: &Frame) -> Result<(), AllocError>
     ensures { OnOk result (out.new.items ≡ out.old.items ++ after_header (S.content source.now) frame.now (header_in (S.content source.now) (take frame.now.count frame.now.blocks))) }
 {
-    let blocks = front(&frame.blocks, frame.count);
-    match header_in(source, blocks) {
+    match header_in(source, front(&frame.blocks, frame.count)) {
         Ok((header, count)) => {
             put_header(out, &header, count)?;
-            put_blocks(heap, out, source, blocks)?;
-            put_last(heap, out, frame.lines)
+            put_frame(out, source, frame)
         }
         Err(fault) => out.extend_from_slice(&refusal_line(Refusal { fault, line: 1 })),
     }
@@ -84,7 +72,7 @@ pub fn file_report<S: Source>(heap: Global, source: &S) -> Result<Vec<u8>, Alloc
 {
     let mut out = Vec::new(heap);
     match check(source) {
-        Ok(frame) => put_file(heap, &mut out, source, &frame)?,
+        Ok(frame) => put_file(&mut out, source, &frame)?,
         Err(refusal) => out.extend_from_slice(&refusal_line(refusal))?,
     }
     Ok(out)

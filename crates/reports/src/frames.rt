@@ -1,10 +1,10 @@
 // What is printed of the frame of a source.
-ghost use Rattle.reports.specs.FrameReport.{block_line, block_lines, block_tail, frame_report, last_line, title_words};
+ghost use Rattle.reports.specs.FrameReport.{block_line, block_lines, block_tail, frame_lines, frame_report, last_line, title_words};
 ghost use Rattle.frame.specs.Lines.{fetched};
 ghost use Rattle.std.specs.Prelude.{◌≡◌, ◌++◌, take, drop, IfOk, string_bytes, OnOk};
 
 use crate::refusal::refusal_line;
-use frame::line::{Fetched, fetch};
+use frame::line::fetch;
 use frame::walk::{Block, Frame, check};
 use media::Source;
 use std::alloc::{AllocError, Global};
@@ -13,7 +13,7 @@ use std::alloc::{AllocError, Global};
 pub(crate) fn front<T>(items: &[T], n: usize) -> &[T]
     ensures { result.now ≡ take n items.now }
 {
-    if n < items.len() { &items[..n] } else { items }
+    &items[..n.min(items.len())]
 }
 
 // The words of the title line that begins at byte `at`, one blank apart.
@@ -21,7 +21,7 @@ fn put_title<S: Source>(out: &mut Vec<u8>, source: &S, at: usize) -> Result<(), 
     ensures { OnOk result (out.new.items ≡ out.old.items ++ title_words (fetched (drop at (S.content source.now)))) }
 {
     match fetch(source, at) {
-        Fetched::Fit(line) => {
+        Ok(Some(line)) => {
             let heading = line.heading();
             out.extend_from_slice(front(&heading.text, heading.len))
         }
@@ -40,41 +40,43 @@ fn block_tail(heap: Global, block: &Block) -> Result<String, AllocError>
 }
 
 // The line of a block.
-fn put_block<S: Source>(
-    heap: Global,
-    out: &mut Vec<u8>,
-    source: &S,
-    block: &Block,
-) -> Result<(), AllocError>
+fn put_block<S: Source>(out: &mut Vec<u8>, source: &S, block: &Block) -> Result<(), AllocError>
     ensures { OnOk result (out.new.items ≡ out.old.items ++ block_line (S.content source.now) block.now) }
 {
     out.extend_from_slice(b"BLOCK ")?;
     put_title(out, source, block.start.byte)?;
-    let tail = block_tail(heap, block)?;
+    let tail = block_tail(*out.allocator(), block)?;
     out.extend_from_slice(tail.as_bytes())
 }
 
 // The lines of the blocks, one after another.
-pub(crate) fn put_blocks<S: Source>(
-    heap: Global,
-    out: &mut Vec<u8>,
-    source: &S,
-    blocks: &[Block],
-) -> Result<(), AllocError>
+fn put_blocks<S: Source>(out: &mut Vec<u8>, source: &S, blocks: &[Block]) -> Result<(), AllocError>
     ensures { OnOk result (out.new.items ≡ out.old.items ++ block_lines (S.content source.now) blocks.now) }
 {
     for block in blocks {
-        put_block(heap, out, source, block)?;
+        put_block(out, source, block)?;
     }
     Ok(())
 }
 
 // The line of the whole.
-pub(crate) fn put_last(heap: Global, out: &mut Vec<u8>, lines: u32) -> Result<(), AllocError>
+fn put_last(out: &mut Vec<u8>, lines: u32) -> Result<(), AllocError>
     ensures { OnOk result (out.new.items ≡ out.old.items ++ last_line lines) }
 {
-    let text = format!(in heap; "FRAME LINES {lines}\n")?;
+    let text = format!(in *out.allocator(); "FRAME LINES {lines}\n")?;
     out.extend_from_slice(text.as_bytes())
+}
+
+// A line for each block in the file's order, and one for the whole.
+pub(crate) fn put_frame<S: Source>(
+    out: &mut Vec<u8>,
+    source: &S,
+    frame: &Frame,
+) -> Result<(), AllocError>
+    ensures { OnOk result (out.new.items ≡ out.old.items ++ frame_lines (S.content source.now) frame.now) }
+{
+    put_blocks(out, source, front(&frame.blocks, frame.count))?;
+    put_last(out, frame.lines)
 }
 
 // The report of a source: a line for each block in the file's order and one for the whole, or the refusal.
@@ -83,10 +85,7 @@ pub fn frame_report<S: Source>(heap: Global, source: &S) -> Result<Vec<u8>, Allo
 {
     let mut out = Vec::new(heap);
     match check(source) {
-        Ok(frame) => {
-            put_blocks(heap, &mut out, source, front(&frame.blocks, frame.count))?;
-            put_last(heap, &mut out, frame.lines)?;
-        }
+        Ok(frame) => put_frame(&mut out, source, &frame)?,
         Err(refusal) => out.extend_from_slice(&refusal_line(refusal))?,
     }
     Ok(out)
