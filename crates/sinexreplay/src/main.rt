@@ -41,27 +41,26 @@ struct Store {
 impl Store {
     fn new(heap: Global) -> Result<Store, AllocError> {
         Ok(Store {
-            sites: vec![in heap; <Site as tables::table::Record>::blank(); SITES]?,
-            spans: vec![in heap; <Span as tables::table::Record>::blank(); SPANS]?,
-            estimates: vec![in heap; <Parameter as tables::table::Record>::blank(); ESTIMATES]?,
-            aprioris: vec![in heap; <Parameter as tables::table::Record>::blank(); APRIORIS]?,
-            cells: vec![in heap; <Number as Cell>::zero(); CELLS]?,
+            sites: vec![in heap; Site::blank(); SITES]?,
+            spans: vec![in heap; Span::blank(); SPANS]?,
+            estimates: vec![in heap; Parameter::blank(); ESTIMATES]?,
+            aprioris: vec![in heap; Parameter::blank(); APRIORIS]?,
+            cells: vec![in heap; Number::zero(); CELLS]?,
             row: vec![in heap; 0; ESTIMATES]?,
         })
     }
-}
 
-// The worksheet's report, from a register over the store.
-fn report(heap: Global, store: &mut Store, sheet: &[u8]) -> Result<Vec<u8>, AllocError> {
-    let mut tables = Tables {
-        sites: &mut store.sites,
-        spans: &mut store.spans,
-        estimates: &mut store.estimates,
-        aprioris: &mut store.aprioris,
-        cells: &mut store.cells,
-        row: &mut store.row,
-    };
-    sheet_report(heap, &mut tables, sheet)
+    // The tables, as they are lent to the register.
+    fn tables(&mut self) -> Tables<'_> {
+        Tables {
+            sites: &mut self.sites,
+            spans: &mut self.spans,
+            estimates: &mut self.estimates,
+            aprioris: &mut self.aprioris,
+            cells: &mut self.cells,
+            row: &mut self.row,
+        }
+    }
 }
 
 fn main(rt: HostRuntime) -> io::Result<()> {
@@ -76,5 +75,5 @@ fn main(rt: HostRuntime) -> io::Result<()> {
     }
     let mut store = Store::new(rt.alloc())?;
     rt.stdout()
-        .write_all(&report(rt.alloc(), &mut store, &sheet)?)
+        .write_all(&sheet_report(rt.alloc(), &mut store.tables(), &sheet)?)
 }

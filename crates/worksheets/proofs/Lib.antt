@@ -1,4 +1,3 @@
 mod Taken
-mod Adds
 mod Ways
 mod Spelling

@@ -1,9 +1,10 @@
 -- A line is read as a command exactly where it spells it.
-use Rattle.std.proofs.Common.{◌≡◌, ℕ, List, [], ◌∷◌, Some, Option, sym, refl, ap, ◌∙◌, inl, inr, arith}
+use Rattle.std.proofs.Common.{◌≡◌, ℕ, cond, List, [], ◌∷◌, Some, Option, sym, refl, ap, ◌∙◌, inl, inr, arith}
 use Rattle.codes.proofs.Spellings.{same_is}
 use Rattle.codes.specs.Order.{same_text}
 use Rattle.codes.specs.declared.letters.MatrixKind.TheVariants.{Correlation, Covariance, Information}
 use Rattle.model.specs.declared.counts.Sort.TheVariants.{Site, Span, Estimate, Apriori}
+use Rattle.std.specs.List.{find}
 use Rattle.std.proofs.lemmas.Bool.{cases_Bool, cond-false, cond-true}
 use Rattle.worksheets.specs.Commands.{Spells, commands, read_command, spelled, spelled_by}
 use Rattle.worksheets.specs.declared.commands.Command.{Command}
@@ -37,3 +38,7 @@ read_so SetCell = refl
 
 pub spells : (bs : List ℕ) (r : Option Command) → r ≡ read_command bs → Spells bs r
 spells bs r e = λ c. (λ h. spelled_so bs commands c (sym e ∙ h), λ h. e ∙ (ap read_command h ∙ read_so c))
+
+pub spelled_found : (bs : List ℕ) (cs : List Command) → spelled_by bs cs ≡ find (λ c. same_text bs (spelled c)) cs
+spelled_found bs [] = refl
+spelled_found bs (c ∷ cs) = ap (cond (same_text bs (spelled c)) (Some c)) (spelled_found bs cs)

@@ -18,9 +18,6 @@ use Rattle.worksheets.specs.Prints.{Replays, answer_line, answers, finally, hold
 use Rattle.worksheets.specs.Replays.{Onward}
 use Rattle.worksheets.specs.Sheets.{Done, Sheet, Then, Unclear, begun, sheet_from, sheet_of}
 
-pub same-slices : (t : Tables) → SameSlices t t
-same-slices t = record { sites = refl; spans = refl; estimates = refl; aprioris = refl; cells = refl; row = refl }
-
 pub slices-on : (t u v : Tables) → SameSlices t u → SameSlices u v → SameSlices t v
 slices-on t u v p q = record {
   sites = q.sites ∙ p.sites;
@@ -30,10 +27,6 @@ slices-on t u v p q = record {
   cells = q.cells ∙ p.cells;
   row = q.row ∙ p.row;
 }
-
--- nothing happened
-pub stay : (x : State) (w : Sheet) (out : List ℕ) → Onward x w out x w out
-stay x w out = record { places = refl; goes = λ s e. (s, e, refl, refl) }
 
 pub onward : (x y z : State) (u v w : Sheet) (a b c : List ℕ) → Onward x u a y v b → Onward y v b z w c → Onward x u a z w c
 onward x y z u v w a b c p q = record {
@@ -59,10 +52,6 @@ called c x y a u w out more o e m = record {
   );
 }
 
--- the end of the worksheet, or a line that is not understood
-pub ended : (x : State) (u : Sheet) (out : List ℕ) → u ≡ Done → Onward x u out x Done out
-ended x u out e = subst (λ (v : Sheet). Onward x v out x Done out) (sym e) (stay x Done out)
-
 pub unclear : (x : State) (n : ℕ) (u : Sheet) (out more : List ℕ) → u ≡ Unclear n → more ≡ out ++ unclear_line n → Onward x u out x Done more
 unclear x n u out more e m = record {
   places = refl;
@@ -72,17 +61,6 @@ unclear x n u out more e m = record {
     append-nil more ∙ (m ∙ ap (λ (v : Sheet). out ++ answers x.places s v) (sym e)),
     ap (λ (v : Sheet). finally x.places s v) (sym e),
   );
-}
-
--- the whole worksheet, and what is held then
-pub whole : (w : Sheet) (x y : State) (before out printed : List ℕ) → before ≡ [] → Onward x w before y Done out → printed ≡ out ++ holds_line y.used → Replays w x printed y
-whole w x y before out printed z o e = record {
-  prints = λ s k.
-      let g = o.goes s k in
-      let held : y.used ≡ counts_of (finally x.places s w) = ap (λ (v : State). v.used) g.1.laid_out ∙ ap counts_of g.3 in
-      let told : out ≡ answers x.places s w = sym (append-nil out) ∙ (g.2 ∙ ap (λ (bs : List ℕ). bs ++ answers x.places s w) z) in
-      e ∙ (ap (λ (n : Counts). out ++ holds_line n) held ∙ ap (λ (bs : List ℕ). bs ++ holds_line (counts_of (finally x.places s w))) told);
-  leaves = λ s k. let g = o.goes s k in subst (λ (t : Solution). Stands y t) g.3 g.1;
 }
 
 -- the first of the lines that are left

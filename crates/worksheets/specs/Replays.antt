@@ -1,5 +1,5 @@
 -- A replay on the way: what was read, and what it stands for.
-use Rattle.std.specs.Prelude.{◌≡◌, ℕ, ◌+◌, ◌<◌, ◌≤◌, List, ◌++◌, length, Some, None, Option}
+use Rattle.std.specs.Prelude.{◌≡◌, ℕ, ◌+◌, List, ◌++◌, length, Ok, Err, Result}
 use Rattle.frame.specs.Lines.{lines}
 use Rattle.model.specs.Edits.{Call, SetHead as SetsHead, Put as Puts, Drop as Drops, SetCell as SetsCell}
 use Rattle.model.specs.Solutions.{Solution}
@@ -24,26 +24,16 @@ lines_left x = lines x.rest.now
 
 -- what the lines that are left say
 abbrev pub left : Lines → Sheet
-left x = sheet_from (x.number + 1) 0 (lines_left x)
+left x = sheet_from (x.taken + 1) 0 (lines_left x)
 
 -- what the lines that are left say after a command
 abbrev pub given : Command → Lines → Sheet
-given c x = calling (x.number + length (lines_left x) + 1) (call_of c (lines_left x)) (sheet_from (x.number + 1) (takes c) (lines_left x))
+given c x = calling (x.taken + length (lines_left x) + 1) (call_of c (lines_left x)) (sheet_from (x.taken + 1) (takes c) (lines_left x))
 
--- what was read: a request and what is left after it, or no line or no command where one was asked for
-abbrev pub read_as : Option Request → Lines → Sheet
-read_as None x = Unclear x.number
-read_as (Some q) x = Then (stated q) (left x)
-
--- what was read of the lines x leaves the lines y, no more of them
-abbrev pub Within : Option Request → Lines → Lines → Type 0
-Within None x y = Unit {0}
-Within (Some q) x y = (y.number + length y.rest.now ≤ x.number + length x.rest.now) × (length y.rest.now ≤ length x.rest.now)
-
--- a command was read of the lines x, and y are left
-pub record Falls (x y : Lines) : Type 0 where
-  pub shorter : length y.rest.now < length x.rest.now
-  pub within : y.number + length y.rest.now ≤ x.number + length x.rest.now
+-- what was read: a request and what is left after it, or the number of a line that is no command or is missing
+abbrev pub read_as : Result Request ℕ → Lines → Sheet
+read_as (Err n) x = Unclear n
+read_as (Ok q) x = Then (stated q) (left x)
 
 -- from the state x, with the sheet w to go and the bytes out printed, to the state y, with the sheet v to go and the bytes more
 pub record Onward (x : State) (w : Sheet) (out : List ℕ) (y : State) (v : Sheet) (more : List ℕ) : Type 0 where

@@ -1,5 +1,5 @@
 // The commands of a worksheet.
-ghost use Rattle.worksheets.specs.Commands.{Spells, read_command, spelled, spelled_by};
+ghost use Rattle.worksheets.specs.Commands.{Spells, read_command, spelled};
 ghost use Rattle.std.specs.Prelude.{◌≡◌};
 
 use codes::letters::MatrixKind;
@@ -52,22 +52,13 @@ impl Command {
     }
 }
 
-// The first of the commands that the line spells, or none.
-fn spelled_by(line: &[u8], commands: &[Command]) -> Option<Command>
-    ensures { result ≡ spelled_by line.now commands.now }
-{
-    for command in commands {
-        if same_text(line, command.words()) {
-            return Some(*command);
-        }
-    }
-    None
-}
-
 // The command that a line spells, or none.
 pub fn read_command(line: &[u8]) -> Option<Command>
     ensures value { result ≡ read_command line.now }
     ensures spells { Spells line.now result }
 {
-    spelled_by(line, &COMMANDS)
+    COMMANDS
+        .iter()
+        .find(|command| same_text(line, command.words()))
+        .copied()
 }

@@ -1,60 +1,30 @@
 // A whole worksheet, replayed.
-ghost use Rattle.std.specs.Prelude.{◌≡◌, ◌+◌, ◌^◌, ◌<◌, true, length, IfOk, if◌then◌else◌, OnOk};
+ghost use Rattle.std.specs.Prelude.{◌≡◌, ◌+◌, ◌≤◌, length, IfOk, OnOk};
 ghost use Rattle.register.specs.Views.{SameSlices, view};
 ghost use Rattle.worksheets.specs.Commands.{read_command};
 ghost use Rattle.worksheets.specs.Prints.{Replays, sheet_report};
-ghost use Rattle.worksheets.specs.Replays.{Falls, Onward, Within, left, lines_left, read_as};
+ghost use Rattle.worksheets.specs.Replays.{Onward, lines_left, read_as};
 ghost use Rattle.worksheets.specs.Sheets.{Done, begun, sheet_from, sheet_of};
 
 use crate::commands::read_command;
 use crate::lines::Lines;
 use crate::prints::{put_answer, put_counts, put_unclear};
-use crate::requests::{Request, perform, read_request};
+use crate::requests::{Request, read_request};
 use register::lent::{Register, Tables};
 use reports::refusal::refusal_line;
 use std::alloc::{AllocError, Global};
 
-// The request that begins with this line; none where the line is no command, or a line that it takes is missing.
-fn request_of<'a>(line: &[u8], lines: &mut Lines<'a>) -> Option<Request<'a>>
-    requires { lines.old.number + length lines.old.rest.now < 2 ^ 63 }
-    ensures read { read_as result lines.new ≡ begun lines.old.number (read_command line.now) (lines_left lines.old) (λ k. sheet_from (lines.old.number + 1) k (lines_left lines.old)) }
-    ensures within { Within result lines.old lines.new }
+// The request that begins with this line; or the number of the line that is no command, or is missing.
+fn request_of<'a>(line: &[u8], lines: &mut Lines<'a>) -> Result<Request<'a>, usize>
+    ensures read { read_as result lines.new ≡ begun lines.old.taken (read_command line.now) (lines_left lines.old) (λ k. sheet_from (lines.old.taken + 1) k (lines_left lines.old)) }
+    ensures shorter { length lines.new.rest.now ≤ length lines.old.rest.now }
 {
-    let command = read_command(line)?;
+    let command = read_command(line).ok_or(lines.taken)?;
     read_request(command, lines)
-}
-
-// Reads the next command, performs it and prints its answer. Whether there was one; one that is not understood is told.
-fn replay_next(
-    heap: Global,
-    out: &mut Vec<u8>,
-    register: &mut Register,
-    tables: &mut Tables,
-    lines: &mut Lines,
-) -> Result<bool, AllocError>
-    requires { lines.old.number + length lines.old.rest.now < 2 ^ 63 }
-    ensures onward { IfOk result (λ b. Onward (view register.old tables.old) (left lines.old) out.old.items (view register.new tables.new) (if b then left lines.new else Done) out.new.items) }
-    ensures falls { IfOk result (λ b. b ≡ true → Falls lines.old lines.new) }
-    ensures slices { SameSlices tables.old tables.new }
-{
-    let Some(line) = lines.next_line() else {
-        return Ok(false);
-    };
-    match request_of(line, lines) {
-        Some(request) => {
-            put_answer(out, perform(register, tables, request))?;
-            Ok(true)
-        }
-        None => {
-            put_unclear(heap, out, lines.number)?;
-            Ok(false)
-        }
-    }
 }
 
 // What is printed of the commands, up to the end of the worksheet or a line that is not understood.
 fn replay_lines(
-    heap: Global,
     out: &mut Vec<u8>,
     register: &mut Register,
     tables: &mut Tables,
@@ -63,11 +33,13 @@ fn replay_lines(
     ensures onward { OnOk result (Onward (view register.old tables.old) (sheet_of sheet.now) out.old.items (view register.new tables.new) Done out.new.items) }
     ensures slices { SameSlices tables.old tables.new }
 {
-    let mut lines = Lines {
-        rest: sheet,
-        number: 0,
-    };
-    while replay_next(heap, out, register, tables, &mut lines)? {}
+    let mut lines = Lines::new(sheet);
+    while let Some(line) = lines.next_line() {
+        match request_of(line, &mut lines) {
+            Ok(request) => put_answer(out, request.perform(register, tables))?,
+            Err(number) => return put_unclear(out, number),
+        }
+    }
     Ok(())
 }
 
@@ -83,8 +55,8 @@ pub fn replay(
     ensures slices { SameSlices tables.old tables.new }
 {
     let mut out = Vec::new(heap);
-    replay_lines(heap, &mut out, register, tables, sheet)?;
-    put_counts(heap, &mut out, &register.counts())?;
+    replay_lines(&mut out, register, tables, sheet)?;
+    put_counts(&mut out, &register.counts())?;
     Ok(out)
 }
 
