@@ -3,5 +3,6 @@ pub mod DataLines
 pub mod Frames
 pub mod Headings
 pub mod Lines
+pub mod Places
 pub mod Rules
 pub mod Titles

@@ -47,14 +47,16 @@ const NO_BLOCK: Block = Block {
 };
 
 // The blocks that are ended, in the file's order: a list in fixed memory.
-#[derive(Drop)]
-struct Ended {
+#[derive(Clone, Copy)]
+pub struct Ended {
     blocks: [Block; 26],
     count: usize,
 }
 
 impl Model for Ended {
-    ghost use Rattle.std.specs.Prelude.{◌≡◌, ◌≤◌, List, take};
+    ghost use Rattle.std.specs.Prelude.{◌≡◌, ◌≤◌, ℕ, List, length, take};
+    ghost use Rattle.std.proofs.Common.{ap₂, sym};
+    ghost use Rattle.frame.specs.Places.{counted_back};
     ghost use Rattle.frame.specs.Blocks.{no_block};
     ghost use Rattle.frame.specs.Lines.{padded};
     ghost use Rattle.frame.specs.declared.walk.Block.{Block};
@@ -64,6 +66,10 @@ impl Model for Ended {
     ghost view = { λ e. take e.count e.blocks };
 
     ghost invariant = { λ e. (e.count ≤ 26) × (e.blocks ≡ padded no_block 26 (take e.count e.blocks)) };
+
+    ghost inverse = { λ bs. record { blocks = padded no_block 26 bs; count = length bs } };
+
+    ghost inverse_ok = { λ e h. ap₂ (λ (bs : List Block) (n : ℕ). record { blocks = bs; count = n }) (sym h.1) (counted_back e.blocks e.count h.0 h.1) };
 }
 
 impl Ended {
@@ -104,17 +110,17 @@ impl Ended {
 
 // Where a line stands: first in the file, outside a block, or inside one, which has these words in its title.
 #[derive(Clone, Copy)]
-enum Stage {
+pub enum Stage {
     Start,
     Outside,
     Inside { heading: Heading, block: Block },
 }
 
 // What the lines so far came to.
-#[derive(Drop)]
-struct Progress {
-    stage: Stage,
-    ended: Ended,
+#[derive(Clone, Copy)]
+pub struct Progress {
+    pub stage: Stage,
+    pub ended: Ended,
 }
 
 impl LineAt {

@@ -68,8 +68,10 @@ fn main(rt: HostRuntime) -> io::Result<()> {
     for line in rt.lines(rt.alloc()) {
         let line = line?;
         if line.starts_with("#") {
-            if let Some(done) = &case {
-                done.print(&rt)?;
+            match &case {
+                Some(done) => done.print(&rt)?,
+                // they belong to no case: their memory is given back
+                None => before = Case::new(rt.alloc(), false),
             }
             case = Some(Case::new(rt.alloc(), line.starts_with("##")));
             rt.println(line)?;

@@ -1,9 +1,9 @@
 // One ordered table over a lent slice, for every kind of record whose key has a total order.
 // The public functions take rows and how many are used apart: a caller lends one of several tables at each call.
-ghost use Rattle.std.specs.Prelude.{◌≡◌, ◌-◌, ◌<◌, ◌≤◌, [], ◌∷◌, ◌++◌, length, take, replicate};
+ghost use Rattle.std.specs.Prelude.{◌≡◌, ◌+◌, ◌-◌, ◌<◌, ◌≤◌, [], ◌∷◌, ◌++◌, length, take, replicate, slice_index_or, slice_set};
 ghost use Rattle.std.specs.declared.cmp.Ordering.{Ordering};
 ghost use Rattle.std.specs.Cmp.{IsTotalOrder};
-ghost use Rattle.std.specs.List.{insert, remove};
+ghost use Rattle.std.specs.List.{copy_within, insert, remove};
 ghost use Rattle.std.specs.List.Sorted.{IsSearchInRange};
 ghost use Rattle.std.specs.Result.{result_unwrap_or};
 ghost use Rattle.tables.specs.Keys.{Rising};
@@ -49,13 +49,50 @@ fn seek<R: Record>(rows: &[R], r: &R) -> Result<usize, usize>
     Err(low)
 }
 
+// Copies the record below place i into it. A function of its own, as `lower`: the compiler then makes one move of memory of a whole
+// shift, which it was not seen to do of `copy_within`.
+fn raise<R: Record>(part: &mut [R], i: usize)
+    requires { (0 < i) × (i < length part.old) }
+    ensures { (d : R) → part.new ≡ slice_set part.old i (slice_index_or part.old (i - 1) d) }
+{
+    part[i] = part[i - 1];
+}
+
+// Moves every record but the last up by one place; the first stands in its place too.
+fn shift_up<R: Record>(part: &mut [R])
+    requires { 0 < length part.old }
+    ensures { part.new ≡ copy_within part.old 0 (length part.old - 1) 1 }
+{
+    for i in (1..part.len()).rev() {
+        raise(part, i);
+    }
+}
+
+// Copies the record above place i into it.
+fn lower<R: Record>(part: &mut [R], i: usize)
+    requires { i + 1 < length part.old }
+    ensures { (d : R) → part.new ≡ slice_set part.old i (slice_index_or part.old (i + 1) d) }
+{
+    part[i] = part[i + 1];
+}
+
+// Moves every record but the first down by one place; the last stands in its place too.
+fn shift_down<R: Record>(part: &mut [R])
+    requires { 0 < length part.old }
+    ensures { part.new ≡ copy_within part.old 1 (length part.old) 0 }
+{
+    for i in 0..part.len() - 1 {
+        lower(part, i);
+    }
+}
+
 // Puts r at place k; the rows from k on move up by one, and the last falls out.
 fn insert<R: Record>(rows: &mut [R], k: usize, r: R)
     requires { k < length rows.old }
     ensures { rows.new ≡ insert (take (length rows.old - 1) rows.old) k r }
 {
     let later = &mut rows[k..];
-    later.copy_within(..later.len() - 1, 1);
+    shift_up(later);
     later[0] = r;
 }
 
@@ -65,7 +102,7 @@ fn remove<R: Record>(rows: &mut [R], k: usize)
     ensures { rows.new ≡ remove rows.old k ++ (R.Record.bare ∷ []) }
 {
     let later = &mut rows[k..];
-    later.copy_within(1.., 0);
+    shift_down(later);
     later[later.len() - 1] = R::blank();
 }
 
